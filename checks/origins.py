@@ -24,7 +24,7 @@ CALLS = {"memory": r"\.(?:push|reserve|insert|extend_from_slice)\(|\b(?:Arc|Box|
 HIDING_IMPORTS = r"(?<!ghost )\buse [^;]*\b(?:[A-Z]\w*::|(?:OutOfMemory|AllocError) as )[^;]*;"
 UNCAUSED = {
     ("encodings/lines.rt", "encode_line"): "`push_text` lacked memory, since the line is UTF-8, and returned `None`",
-    ("line_lane/setter.rt", "give_up"): "the calls of this function are searched",
+    ("lanes/setter.rt", "give_up"): "the calls of this function are searched",
     ("line_chunks/input.rt", "fill"): "1,048,576 reads didn't reach the end of a line",
     ("line_chunks/input.rt", "skip"): "1,048,576 reads didn't reach the end of a line that is too long",
     ("tfm_requests/files/reading.rt", "kept_bytes"): "1,048,576 reads didn't reach the end of a font",

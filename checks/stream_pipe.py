@@ -465,7 +465,7 @@ class Pipes(Case):
         print(f"long lines in full rings: {peak} KB")
         self.assertLess(peak, MOST_LONG_MEMORY)
 
-    # Mutants: no chunk is large (line_chunks); `offer` in line_lane passes a large chunk on as it does a small one.
+    # Mutants: no chunk is large (line_chunks); `offer` in lanes passes a large chunk on as it does a small one.
     @rows((f"{command} --capacity {slots}: {reads} reads", command, slots, reads)
           for command, slots, reads in (("set", 4, 5), ("stream", 8, 7)))
     def test_long_lines_ahead(self, command, slots, reads):

@@ -1,5 +1,5 @@
 //! Sources of lines, with terms and failures.
-use line_lane::SourceFault;
+use lanes::SourceFault;
 use set_line::{Line, Terms};
 use set_run::{LineSource, ListSource};
 use std::alloc::Global;

@@ -4,7 +4,7 @@ use Rattle.std.specs.Prelude.{set}
 use Rattle.std.proofs.lemmas.Nat.{mod_below}
 use Rattle.std.proofs.lemmas.List.{get_or-set_same, get_or-set_other, map-set, length-map, length-set}
 use Rattle.std.proofs.Math.Nat.{suc-mod}
-use Rattle.line_lane.proofs.FrontLemmas.{front_first, front_same}
+use Rattle.lanes.proofs.FrontLemmas.{front_first, front_same}
 use Rattle.dealt_lanes.specs.InTurn.{AreInTurn, AreShares, StopAt, in_turn, share}
 use Rattle.dealt_lanes.proofs.Zips.{map_at}
 use Rattle.dealt_lanes.proofs.Shares.{equal, unequal, in_turn_are, share-here, share-there}

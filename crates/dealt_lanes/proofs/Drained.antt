@@ -2,15 +2,15 @@
 use Rattle.std.proofs.Common.{◌≡◌, Bool, true, false, [], ◌∷◌, Option, None, refl, ap, sym, ◌∙◌}
 use Rattle.std.specs.Prelude.{is_some, if◌then◌else◌}
 use Rattle.std.proofs.lemmas.Bool.{true≢false}
-use Rattle.line_lane.specs.Ends.{SameTaker, hands_of, taken}
-use Rattle.line_lane.specs.Takes.{Takes}
-use Rattle.line_lane.specs.declared.taker.Taker.{Taker}
-use Rattle.line_lane.specs.declared.took.Took.{Took}
-use Rattle.line_lane.specs.declared.took.Took.TheVariants.{Nothing, Answer, End}
-use Rattle.line_lane.specs.declared.ending.LaneEnd.{LaneEnd}
+use Rattle.lanes.specs.Ends.{SameTaker, hands_of, taken}
+use Rattle.lanes.specs.Takes.{Takes}
+use Rattle.lanes.specs.declared.taker.Taker.{Taker}
+use Rattle.lanes.specs.declared.took.Took.{Took}
+use Rattle.lanes.specs.declared.took.Took.TheVariants.{Nothing, Answer, End}
+use Rattle.lanes.specs.declared.ending.LaneEnd.{LaneEnd}
 use Rattle.dealt_lanes.specs.Takers.{IsDrained}
 use Rattle.dealt_lanes.proofs.SameEnds.{taker_refl, taker_trans}
-use Rattle.line_lane.proofs.FrontLemmas.{first_front, front_first, front_same, front_trans}
+use Rattle.lanes.proofs.FrontLemmas.{first_front, front_first, front_same, front_trans}
 
 has_ended : (ended : Bool) (ending : Option LaneEnd) → is_some (if ended then ending else None) ≡ true → ended ≡ true
 has_ended true ending e = refl

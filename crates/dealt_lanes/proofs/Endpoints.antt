@@ -5,16 +5,16 @@ use Rattle.std.specs.Prelude.{set, is_some, not, if◌then◌else◌}
 use Rattle.std.specs.List.{AllZip}
 use Rattle.std.proofs.lemmas.Bool.{true≢false}
 use Rattle.std.proofs.lemmas.List.Elements.{length_all_zip}
-use Rattle.line_lane.specs.Rings.{IsFirstOf}
-use Rattle.line_lane.specs.Ends.{IsRefusal, fed, taken, taker_end}
-use Rattle.line_lane.specs.declared.feeder.Feeder.{Feeder}
-use Rattle.line_lane.specs.declared.taker.Taker.{Taker}
-use Rattle.line_lane.specs.declared.ending.SourceEnd.{SourceEnd}
-use Rattle.line_lane.specs.declared.ending.LaneEnd.{LaneEnd}
-use Rattle.line_lane.specs.declared.offer_fault.OfferFault.{OfferFault}
-use Rattle.line_lane.specs.declared.offer_fault.OfferFault.TheVariants.{Closed, NoRoom}
-use Rattle.line_lane.specs.declared.took.Took.TheVariants.{Nothing, Answer, End}
-use Rattle.line_lane.proofs.FrontLemmas.{first_front, front_first, front_trans}
+use Rattle.lanes.specs.Rings.{IsFirstOf}
+use Rattle.lanes.specs.Ends.{IsRefusal, fed, taken, taker_end}
+use Rattle.lanes.specs.declared.feeder.Feeder.{Feeder}
+use Rattle.lanes.specs.declared.taker.Taker.{Taker}
+use Rattle.lanes.specs.declared.ending.SourceEnd.{SourceEnd}
+use Rattle.lanes.specs.declared.ending.LaneEnd.{LaneEnd}
+use Rattle.lanes.specs.declared.offer_fault.OfferFault.{OfferFault}
+use Rattle.lanes.specs.declared.offer_fault.OfferFault.TheVariants.{Closed, NoRoom}
+use Rattle.lanes.specs.declared.took.Took.TheVariants.{Nothing, Answer, End}
+use Rattle.lanes.proofs.FrontLemmas.{first_front, front_first, front_trans}
 use Rattle.dealt_lanes.specs.InTurn.{AreInTurn, BeginWithShares, StopAt, in_turn, share}
 use Rattle.dealt_lanes.specs.Feeders.{IsFedAt, IsReturned, each_fed}
 use Rattle.dealt_lanes.specs.Takers.{AreGathered, IsDrained, IsTakenAt, SameTakers, each_taken}

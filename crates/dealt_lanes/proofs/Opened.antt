@@ -5,12 +5,12 @@ use Rattle.std.specs.Prelude.{All, is_some, true}
 use Rattle.std.proofs.Math.Nat.{zero-mod}
 use Rattle.std.proofs.lemmas.Bool.{true≢false}
 use Rattle.std.proofs.lemmas.List.Elements.{All-get_or, All-map, All-weaker}
-use Rattle.line_lane.specs.Ends.{fed, feeder_end, state_of, taken}
-use Rattle.line_lane.specs.Turns.{fresh}
-use Rattle.line_lane.specs.declared.making.Making.{Ghosts}
-use Rattle.line_lane.specs.declared.feeder.Feeder.{Feeder}
-use Rattle.line_lane.specs.declared.setter.Setter.{Setter}
-use Rattle.line_lane.specs.declared.taker.Taker.{Taker}
+use Rattle.lanes.specs.Ends.{fed, feeder_end, state_of, taken}
+use Rattle.lanes.specs.Turns.{fresh}
+use Rattle.lanes.specs.declared.making.Making.{Ghosts}
+use Rattle.lanes.specs.declared.feeder.Feeder.{Feeder}
+use Rattle.lanes.specs.declared.setter.Setter.{Setter}
+use Rattle.lanes.specs.declared.taker.Taker.{Taker}
 use Rattle.dealt_lanes.specs.InTurn.{AreInTurn, AreShares, in_turn}
 use Rattle.dealt_lanes.specs.Feeders.{HaveEnd, each_fed}
 use Rattle.dealt_lanes.specs.Takers.{AreGathered, each_taken}

@@ -2,13 +2,13 @@
 use Rattle.std.proofs.Common.{rules, ◌≡◌, ℕ, ◌<◌, Bool, false, List, length, get_or, refl, ap, sym, subst, ◌∙◌}
 use Rattle.std.proofs.lemmas.Bool.{true≢false}
 use Rattle.std.proofs.lemmas.List.Elements.{All-get_or, All-set}
-use Rattle.line_lane.specs.declared.ending.SourceEnd.{SourceEnd}
+use Rattle.lanes.specs.declared.ending.SourceEnd.{SourceEnd}
 use Rattle.dealt_lanes.specs.Feeders.{HaveEnd}
 use Rattle.std.specs.Prelude.{set, true, Option, Some, None, is_some}
-use Rattle.line_lane.specs.Messages.{first_end}
-use Rattle.line_lane.specs.Ends.{IsAsFed, IsClosedWith, SameFeeder, SameTaker, feeder_end}
-use Rattle.line_lane.specs.declared.feeder.Feeder.{Feeder}
-use Rattle.line_lane.specs.declared.taker.Taker.{Taker}
+use Rattle.lanes.specs.Messages.{first_end}
+use Rattle.lanes.specs.Ends.{IsAsFed, IsClosedWith, SameFeeder, SameTaker, feeder_end}
+use Rattle.lanes.specs.declared.feeder.Feeder.{Feeder}
+use Rattle.lanes.specs.declared.taker.Taker.{Taker}
 
 module _ {I IS : Type 0} where
   pub feeder_refl : (f : Feeder I IS) → SameFeeder f f

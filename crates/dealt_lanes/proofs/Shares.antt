@@ -4,7 +4,7 @@ use Rattle.std.specs.Prelude.{set}
 use Rattle.std.proofs.lemmas.Nat.{mod_below}
 use Rattle.std.proofs.lemmas.Bool.{true≢false}
 use Rattle.std.proofs.lemmas.List.{get_or-set_same, get_or-set_other, length-set}
-use Rattle.line_lane.proofs.FrontLemmas.{IsFront, first_front}
+use Rattle.lanes.proofs.FrontLemmas.{IsFront, first_front}
 use Rattle.dealt_lanes.specs.InTurn.{share_from, share, BeginWithShares, count_all, turns, in_turn}
 
 itself : (n : ℕ) → nat_eq n n ≡ true

@@ -6,18 +6,18 @@ use Rattle.std.proofs.lemmas.Nat.{mod_below}
 use Rattle.std.proofs.lemmas.Option.{none-some}
 use Rattle.std.proofs.lemmas.List.{length-map}
 use Rattle.std.proofs.lemmas.List.Elements.{All-get_or}
-use Rattle.line_lane.specs.Lane.{lane_end_of, pipeline}
-use Rattle.line_lane.specs.Turns.{is_given_up}
-use Rattle.line_lane.specs.Settled.{IsSettled}
-use Rattle.line_lane.specs.Ends.{fed, feeder_end, state_of, taken, taker_end}
-use Rattle.line_lane.specs.declared.making.Making.{Ghosts}
-use Rattle.line_lane.specs.declared.feeder.Feeder.{Feeder}
-use Rattle.line_lane.specs.declared.setter.Setter.{Setter}
-use Rattle.line_lane.specs.declared.taker.Taker.{Taker}
-use Rattle.line_lane.specs.declared.ending.SourceEnd.{SourceEnd}
-use Rattle.line_lane.specs.declared.ending.LaneEnd.{LaneEnd}
-use Rattle.line_lane.specs.declared.ending.LaneEnd.TheVariants.{GaveUp}
-use Rattle.line_lane.proofs.FrontLemmas.{IsFront, first_front, front_pipeline, front_trans, pipeline_front}
+use Rattle.lanes.specs.Lane.{lane_end_of, pipeline}
+use Rattle.lanes.specs.Turns.{is_given_up}
+use Rattle.lanes.specs.Settled.{IsSettled}
+use Rattle.lanes.specs.Ends.{fed, feeder_end, state_of, taken, taker_end}
+use Rattle.lanes.specs.declared.making.Making.{Ghosts}
+use Rattle.lanes.specs.declared.feeder.Feeder.{Feeder}
+use Rattle.lanes.specs.declared.setter.Setter.{Setter}
+use Rattle.lanes.specs.declared.taker.Taker.{Taker}
+use Rattle.lanes.specs.declared.ending.SourceEnd.{SourceEnd}
+use Rattle.lanes.specs.declared.ending.LaneEnd.{LaneEnd}
+use Rattle.lanes.specs.declared.ending.LaneEnd.TheVariants.{GaveUp}
+use Rattle.lanes.proofs.FrontLemmas.{IsFront, first_front, front_pipeline, front_trans, pipeline_front}
 use Rattle.dealt_lanes.specs.InTurn.{AreInTurn, StopAt, in_turn, share, share_from}
 use Rattle.dealt_lanes.specs.Feeders.{HaveEnd, each_fed}
 use Rattle.dealt_lanes.specs.Takers.{AreGathered, each_taken}

@@ -1,11 +1,11 @@
 -- The endpoints of several lanes for one source: the items dealt, and the results gathered.
 -- This project's own.
 use Rattle.std.specs.Prelude.{◌≡◌, ◌++◌, ◌∷◌, [], ℕ, List, length, Option, Some, None}
-use Rattle.line_lane.specs.Messages.{first_end}
-use Rattle.line_lane.specs.declared.ending.SourceEnd.{SourceEnd}
-use Rattle.line_lane.specs.declared.ending.LaneEnd.{LaneEnd}
-use Rattle.line_lane.specs.declared.took.Took.{Took}
-use Rattle.line_lane.specs.declared.took.Took.TheVariants.{Nothing, Answer, End}
+use Rattle.lanes.specs.Messages.{first_end}
+use Rattle.lanes.specs.declared.ending.SourceEnd.{SourceEnd}
+use Rattle.lanes.specs.declared.ending.LaneEnd.{LaneEnd}
+use Rattle.lanes.specs.declared.took.Took.{Took}
+use Rattle.lanes.specs.declared.took.Took.TheVariants.{Nothing, Answer, End}
 use Rattle.dealt_lanes.specs.InTurn.{in_turn}
 use Rattle.dealt_lanes.specs.Feeders.{SameFeeders, each_fed}
 use Rattle.dealt_lanes.specs.Takers.{SameTakers, each_taken}

@@ -2,11 +2,11 @@
 -- This project's own.
 use Rattle.std.specs.Prelude.{◌≡◌, ◌++◌, ℕ, List, [], ◌∷◌, map, get_or, set, true, All, IsSome, Option, None, is_some}
 use Rattle.std.specs.List.{AllZip}
-use Rattle.line_lane.specs.Ends.{SameFeeder, fed, feeder_end}
-use Rattle.line_lane.specs.declared.feeder.Feeder.{Feeder}
-use Rattle.line_lane.specs.declared.offer_fault.OfferFault.{OfferFault}
-use Rattle.line_lane.specs.declared.offer_fault.OfferFault.TheVariants.{Closed, NoRoom}
-use Rattle.line_lane.specs.declared.ending.SourceEnd.{SourceEnd}
+use Rattle.lanes.specs.Ends.{SameFeeder, fed, feeder_end}
+use Rattle.lanes.specs.declared.feeder.Feeder.{Feeder}
+use Rattle.lanes.specs.declared.offer_fault.OfferFault.{OfferFault}
+use Rattle.lanes.specs.declared.offer_fault.OfferFault.TheVariants.{Closed, NoRoom}
+use Rattle.lanes.specs.declared.ending.SourceEnd.{SourceEnd}
 
 module _ {I IS : Type 0} where
   -- the items that were fed to each feeder

@@ -2,7 +2,7 @@
 -- modulo the number of lists.
 -- This project's own.
 use Rattle.std.specs.Prelude.{◌≡◌, ℕ, zero, suc, ◌+◌, ◌%◌, ◌<◌, nat_eq, List, [], ◌∷◌, length, get_or, set, if◌then◌else◌}
-use Rattle.line_lane.specs.Rings.{IsFirstOf}
+use Rattle.lanes.specs.Rings.{IsFirstOf}
 
 module _ {T : Type 0} where
   -- of items that are dealt over this many lists, where the first item is number `place` of all: those that

@@ -1,16 +1,16 @@
 -- The feeders, setters and takers of several lanes, lane by lane.
 -- This project's own.
 use Rattle.std.specs.Prelude.{◌≡◌, ◌<◌, ℕ, List, [], length, get_or, Some, None}
-use Rattle.line_lane.specs.Lane.{pipeline}
-use Rattle.line_lane.specs.Turns.{fresh}
-use Rattle.line_lane.specs.Settled.{IsSettled}
-use Rattle.line_lane.specs.Ends.{IsLane, fed, feeder_end, state_of, taken, taker_end}
-use Rattle.line_lane.specs.declared.making.Making.{Ghosts}
-use Rattle.line_lane.specs.declared.feeder.Feeder.{Feeder}
-use Rattle.line_lane.specs.declared.setter.Setter.{Setter}
-use Rattle.line_lane.specs.declared.taker.Taker.{Taker}
-use Rattle.line_lane.specs.declared.ending.LaneEnd.{LaneEnd}
-use Rattle.line_lane.specs.declared.ending.LaneEnd.TheVariants.{GaveUp}
+use Rattle.lanes.specs.Lane.{pipeline}
+use Rattle.lanes.specs.Turns.{fresh}
+use Rattle.lanes.specs.Settled.{IsSettled}
+use Rattle.lanes.specs.Ends.{IsLane, fed, feeder_end, state_of, taken, taker_end}
+use Rattle.lanes.specs.declared.making.Making.{Ghosts}
+use Rattle.lanes.specs.declared.feeder.Feeder.{Feeder}
+use Rattle.lanes.specs.declared.setter.Setter.{Setter}
+use Rattle.lanes.specs.declared.taker.Taker.{Taker}
+use Rattle.lanes.specs.declared.ending.LaneEnd.{LaneEnd}
+use Rattle.lanes.specs.declared.ending.LaneEnd.TheVariants.{GaveUp}
 
 module _ {A B C : Type 0} where
   -- a property of the three elements at this index of three lists

@@ -2,12 +2,12 @@
 -- This project's own.
 use Rattle.std.specs.Prelude.{◌≡◌, List, map, All, Some}
 use Rattle.std.specs.Option.{option_map}
-use Rattle.line_lane.specs.Lane.{lane_end_of, pipeline}
-use Rattle.line_lane.specs.Ends.{IsLane, state_of}
-use Rattle.line_lane.specs.declared.making.Making.{Ghosts}
-use Rattle.line_lane.specs.declared.setter.Setter.{Setter}
-use Rattle.line_lane.specs.declared.ending.LaneEnd.{LaneEnd}
-use Rattle.line_lane.specs.declared.ending.LaneEnd.TheVariants.{GaveUp}
+use Rattle.lanes.specs.Lane.{lane_end_of, pipeline}
+use Rattle.lanes.specs.Ends.{IsLane, state_of}
+use Rattle.lanes.specs.declared.making.Making.{Ghosts}
+use Rattle.lanes.specs.declared.setter.Setter.{Setter}
+use Rattle.lanes.specs.declared.ending.LaneEnd.{LaneEnd}
+use Rattle.lanes.specs.declared.ending.LaneEnd.TheVariants.{GaveUp}
 use Rattle.dealt_lanes.specs.Lanes.{AllThree}
 use Rattle.dealt_lanes.specs.Dealt.{dealer_end, dealt, gathered, gatherer_end}
 use Rattle.dealt_lanes.specs.declared.dealer.Dealer.{Dealer}

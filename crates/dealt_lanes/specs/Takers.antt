@@ -2,12 +2,12 @@
 -- This project's own.
 use Rattle.std.specs.Prelude.{◌≡◌, ℕ, List, map, get_or, set, true, All, IsSome, Option, None, is_some}
 use Rattle.std.specs.List.{AllZip}
-use Rattle.line_lane.specs.Rings.{IsFirstOf}
-use Rattle.line_lane.specs.Ends.{SameTaker, hands_of, taken, taker_end}
-use Rattle.line_lane.specs.Takes.{Takes}
-use Rattle.line_lane.specs.declared.taker.Taker.{Taker}
-use Rattle.line_lane.specs.declared.took.Took.{Took}
-use Rattle.line_lane.specs.declared.ending.LaneEnd.{LaneEnd}
+use Rattle.lanes.specs.Rings.{IsFirstOf}
+use Rattle.lanes.specs.Ends.{SameTaker, hands_of, taken, taker_end}
+use Rattle.lanes.specs.Takes.{Takes}
+use Rattle.lanes.specs.declared.taker.Taker.{Taker}
+use Rattle.lanes.specs.declared.took.Took.{Took}
+use Rattle.lanes.specs.declared.ending.LaneEnd.{LaneEnd}
 use Rattle.dealt_lanes.specs.InTurn.{AreInTurn, StopAt}
 
 module _ {O OS : Type 0} where

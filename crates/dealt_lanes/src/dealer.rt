@@ -6,13 +6,12 @@ ghost use Rattle.dealt_lanes.specs.Feeders.{HaveEnd, each_fed};
 
 use crate::feeding::{close_all, offer_at};
 use crate::turn::next_turn;
-use line_lane::{Feeder, OfferFault, SourceEnd, Stored};
-use set_line::Line;
+use lanes::{Feeder, OfferFault, SourceEnd, Stored};
 
 /// The endpoint of several lanes where the items of one source are fed. The first item goes to the first
 /// lane, and each later one to the next lane; after the last lane comes the first again.
 #[derive(Drop)]
-pub struct Dealer<I: Stored = Line> {
+pub struct Dealer<I: Stored> {
     pub(crate) feeders: Vec<Feeder<I>>,
     /// The number of the lane that the next item goes to.
     pub(crate) turn: usize,
@@ -25,7 +24,7 @@ pub struct Dealer<I: Stored = Line> {
 
 impl<I: Stored> Dealer<I> {
     ghost use Rattle.std.specs.Prelude.{◌≡◌, ◌↔◌, IsTrue, OnOk, IfErr, Some};
-    ghost use Rattle.line_lane.specs.Messages.{first_end};
+    ghost use Rattle.lanes.specs.Messages.{first_end};
     ghost use Rattle.dealt_lanes.specs.Feeders.{AreClosed, IsReturned};
     ghost use Rattle.dealt_lanes.specs.Dealt.{IsAsDealt, IsDealt, SameDealer, dealer_end, dealer_lanes, dealer_turn, dealt};
 

@@ -2,7 +2,7 @@
 ghost use Rattle.std.specs.Prelude.{◌≡◌, ◌↔◌, ◌<◌, IsTrue, IfErr, None, OnOk, Some, vec_len};
 ghost use Rattle.dealt_lanes.specs.Feeders.{AreClosed, HaveEnd, IsFedAt, IsReturned, SameFeeders, each_fed};
 
-use line_lane::{Feeder, OfferFault, SourceEnd, Stored};
+use lanes::{Feeder, OfferFault, SourceEnd, Stored};
 
 /// Feeds an item to one feeder. No feeder may be closed.
 pub(crate) fn offer_at<I: Stored>(

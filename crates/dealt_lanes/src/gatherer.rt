@@ -5,13 +5,12 @@ ghost use Rattle.dealt_lanes.specs.Takers.{AreGathered};
 
 use crate::taking::{drop_all, have_ended, take_at};
 use crate::turn::next_turn;
-use line_lane::{LaneEnd, Made, Stored, Taker, Took};
-use set_line::Answer;
+use lanes::{LaneEnd, Made, Stored, Taker, Took};
 
 /// The endpoint of several lanes from which the results of one source are taken, in the order of its items:
 /// the lanes are in turn as they were for the items.
 #[derive(Drop)]
-pub struct Gatherer<O: Stored = Answer> {
+pub struct Gatherer<O: Stored> {
     pub(crate) takers: Vec<Taker<O>>,
     /// The number of the lane that the next result is from.
     pub(crate) turn: usize,

@@ -1,14 +1,14 @@
 //! Opens several lanes for one source.
 ghost use Rattle.std.specs.Prelude.{◌≡◌, ◌+◌, ◌<◌, ◌++◌, ◌∷◌, [], All, None, IfOk, OnOk, length};
-ghost use Rattle.line_lane.specs.Turns.{fresh};
-ghost use Rattle.line_lane.specs.Ends.{state_of};
+ghost use Rattle.lanes.specs.Turns.{fresh};
+ghost use Rattle.lanes.specs.Ends.{state_of};
 ghost use Rattle.dealt_lanes.specs.Lanes.{AllThree, IsNew};
 ghost use Rattle.dealt_lanes.specs.Dealt.{dealer_end, dealer_turn, dealt, gathered, gatherer_end};
 ghost use Rattle.dealt_lanes.specs.Settled.{AreDealtLanes};
 
 use crate::{Dealer, Gatherer, Shared};
-use line_lane::{Block, Capacity, Feeder, Making, Setter, Taker, open};
-use set_line::OutOfMemory;
+use lanes::{Block, Capacity, Feeder, Making, Setter, Taker, open};
+use run_plan::OutOfMemory;
 use std::alloc::{AllocError, Global};
 
 /// The endpoints of lanes, lane by lane.

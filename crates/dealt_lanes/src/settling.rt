@@ -1,10 +1,10 @@
 //! Brings the endpoints of several lanes together again.
-ghost use Rattle.line_lane.specs.Ends.{IsLane};
+ghost use Rattle.lanes.specs.Ends.{IsLane};
 ghost use Rattle.dealt_lanes.specs.Lanes.{AllThree, IsMet};
 ghost use Rattle.dealt_lanes.specs.Settled.{AllMake, AreDealtLanes, AreSettled};
 
 use crate::{Dealer, Gatherer};
-use line_lane::{Feeder, Making, Setter, Taker, settle};
+use lanes::{Feeder, Making, Setter, Taker, settle};
 
 /// Settles a lane.
 fn settle_one<M: Making>(feeder: Feeder<M::In>, setter: Setter<M>, taker: Taker<M::Out>)

@@ -3,7 +3,7 @@ ghost use Rattle.std.specs.Prelude.{◌↔◌, ◌<◌, IsTrue, vec_len};
 ghost use Rattle.std.specs.List.{AllZip};
 ghost use Rattle.dealt_lanes.specs.Takers.{HaveEnded, IsDrained, IsTakenAt, SameTakers};
 
-use line_lane::{Made, Stored, Taker, Took};
+use lanes::{Made, Stored, Taker, Took};
 
 /// Takes the next result or the end of one lane.
 pub(crate) fn take_at<O: Made + Stored>(takers: &mut Vec<Taker<O>>, lane: usize) -> Took<O>

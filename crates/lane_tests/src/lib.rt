@@ -1,4 +1,4 @@
-//! The tests of `line_lane` and `dealt_lanes`, over their public calls alone.
+//! The tests of `lanes`, `dealt_lanes` and `line_lane`, over their public calls alone.
 #![tactic(auto)]
 
 #[cfg(test)]

@@ -3,7 +3,7 @@
 use Rattle.std.specs.Prelude.{◌≡◌, ◌≢◌, ◌<◌, ℕ, ◌+◌, ◌^◌, Bool, List, [], length, map, Option, Some, None, Result, Ok, Err}
 use Rattle.std.specs.Option.{option_map}
 use Rattle.std.specs.Io.KnownBytes.{IsAtEnd, prepend_known}
-use Rattle.line_lane.specs.declared.fault.SourceFault.{SourceFault}
+use Rattle.lanes.specs.declared.fault.SourceFault.{SourceFault}
 use Rattle.set_run.specs.Calls.{HasReturned}
 use Rattle.set_run.specs.Sources.{gives_line}
 use Rattle.line_chunks.specs.Chunks.{ChunkValue, cut}

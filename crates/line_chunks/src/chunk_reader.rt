@@ -6,7 +6,7 @@ ghost use Rattle.line_chunks.specs.declared.chunk_reader.ReaderState.TheVariants
 use crate::Chunk;
 use crate::cutting::count_feeds;
 use crate::input::{Filled, Input, Skipped};
-use line_lane::SourceFault;
+use lanes::SourceFault;
 use set_run::ItemSource;
 use std::alloc::Global;
 use std::io::Read;

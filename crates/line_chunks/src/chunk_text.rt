@@ -2,7 +2,7 @@ ghost use Rattle.std.specs.Prelude.{◌≡◌};
 ghost use Rattle.line_chunks.specs.ChunkText.{IsChunkText, chunk_text};
 
 use crate::{Chunk, LineCounts, RecordMaker};
-use line_lane::Made;
+use lanes::Made;
 use std::marker::Model;
 use std::snapshot::Snapshot;
 

@@ -11,7 +11,7 @@ use crate::chunk_text::LineCount;
 use crate::{Chunk, ChunkText, LineCounts};
 use dealt_lanes::Shared;
 use encodings::Encoding;
-use line_lane::Making;
+use lanes::Making;
 use line_records::{LineResult, LineWriter, RecordFormat, RecordOf, SourceLine};
 use set_line::{
     LineRefusal, OutOfMemory, RecordNumber, Terms, TextRefusal, append_refusal, next_line,

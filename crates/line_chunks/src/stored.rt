@@ -1,6 +1,6 @@
 //! Chunks and their texts as items of messages: a message has one.
 use crate::{Chunk, ChunkText};
-use line_lane::Stored;
+use lanes::Stored;
 
 /// The number of bytes above which a chunk is large.
 const LARGE_CHUNK: usize = 8192;

@@ -1,43 +1,17 @@
-//! The lane of one source: items are fed to a [`Feeder`], a [`Setter`] makes their results, and a [`Taker`]
-//! returns these in order. A ring, which is a bounded queue with one producer and one consumer, connects each
-//! of these endpoints with the next, so that each may be in a thread of its own.
+//! The lane of lines: an item is a [`Line`](set_line::Line), its result the [`Answer`](set_line::Answer) with the
+//! settings of the lane, and the maker a [`LineMaker`].
 //!
-//! The maker of a lane, a [`Making`], states what an item is and which result is made of it. Every type has
-//! the lane of lines as its default: an item is a `Line`, its result an `Answer`, and the maker an `Arc` of
-//! the settings.
+//! The types and calls are those of `lanes`. Here they have the names of the endpoints of a lane of lines.
 #![tactic(auto)]
 
-pub use ending::{LaneEnd, SourceEnd};
-pub use fault::SourceFault;
-pub use feeder::Feeder;
-pub use made::Made;
-pub use making::Making;
-pub use offer_fault::OfferFault;
+pub use endpoints::{Feeder, OfferFault, Open, Setter, Taker, Took};
+pub use lanes::{
+    Block, Capacity, InlineSlots, LaneEnd, Made, Making, Slots, SourceEnd, SourceFault, Stored,
+    Turn, settle,
+};
+pub use line_maker::LineMaker;
 pub use opening::open;
-pub use run_plan::{Block, Capacity};
-pub use setter::Setter;
-pub use settling::{Open, settle};
-pub use slots::{InlineSlots, Slots, Stored};
-pub use taker::Taker;
-pub use took::Took;
-pub use turn::Turn;
 
-mod block_size;
-mod ending;
-mod fault;
-mod feeder;
-mod made;
-mod making;
-mod meeting;
-mod message;
-mod offer_fault;
+mod endpoints;
+mod line_maker;
 mod opening;
-mod receiver;
-mod sender;
-mod setter;
-mod settling;
-mod slots;
-mod stored;
-mod taker;
-mod took;
-mod turn;

@@ -6,14 +6,13 @@ use Rattle.std.proofs.Math.Bool.{cond}
 use Rattle.std.specs.Prelude.{flat_map}
 use Rattle.std.specs.List.{concat}
 use Rattle.set_line.specs.Terms.{TermsValue}
-use Rattle.set_line.specs.Answer.{answer_of}
+use Rattle.set_line.specs.Answer.{answer_of, answers_of}
 use Rattle.encodings.specs.declared.encoding.Encoding.{Encoding}
 use Rattle.set_line.specs.Record.{record_text, text_record}
 use Rattle.formats.specs.declared.record_format.RecordFormat.{RecordFormat}
 use Rattle.formats.specs.declared.record_format.RecordFormat.TheVariants.{Items, Box}
 use Rattle.line_records.specs.Results.{is_refused, result_record}
 use Rattle.line_records.proofs.ResultLemmas.{refused_bytes, text_of_bytes}
-use Rattle.line_lane.specs.Lane.{answers_of}
 use Rattle.line_chunks.specs.Chunks.{ChunkLine, cut}
 use Rattle.line_chunks.specs.Chunks.{ChunkValue, NumberedLine, lines_of_chunk, numbered, numbered_cuts}
 use Rattle.line_chunks.specs.ChunkText.{ChunkTextValue, IsChunkText, MakerValue, chunk_text, record_in, refused_in, result_in}

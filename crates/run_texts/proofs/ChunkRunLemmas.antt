@@ -7,11 +7,10 @@ use Rattle.std.specs.Arc.{arc_value}
 use Rattle.std.specs.declared.sync.Arc.{Arc}
 use Rattle.std.specs.declared.alloc.Global.{Global}
 use Rattle.set_line.specs.Terms.{TermsValue}
-use Rattle.set_line.specs.Answer.{answer_of}
-use Rattle.line_lane.specs.Lane.{answers_of}
-use Rattle.line_lane.specs.declared.fault.SourceFault.{SourceFault}
-use Rattle.line_lane.specs.declared.ending.SourceEnd.{SourceEnd}
-use Rattle.line_lane.specs.declared.ending.SourceEnd.TheVariants.{Complete as SourceComplete, Failed}
+use Rattle.set_line.specs.Answer.{answer_of, answers_of}
+use Rattle.lanes.specs.declared.fault.SourceFault.{SourceFault}
+use Rattle.lanes.specs.declared.ending.SourceEnd.{SourceEnd}
+use Rattle.lanes.specs.declared.ending.SourceEnd.TheVariants.{Complete as SourceComplete, Failed}
 use Rattle.line_chunks.specs.Chunks.{ChunkLine, ChunkValue, cut, lines_of_chunk, numbered, numbered_cuts}
 use Rattle.line_chunks.specs.ChunkText.{ChunkTextValue, MakerValue, RecordStyle, chunk_text}
 use Rattle.line_chunks.specs.Reading.{IsChunkOf, ReadsFrom, Told, gives_chunk, gives_told, told, told_unread}

@@ -8,7 +8,7 @@ use Rattle.std.proofs.lemmas.List.Folds.{concat-append}
 use Rattle.std.proofs.lemmas.List.Sums.{sum_by-cons, sum_by-append}
 use Rattle.run_plan.specs.declared.version.Version.{Version}
 use Rattle.set_line.specs.Answer.{AnswerValue}
-use Rattle.line_lane.specs.declared.ending.LaneEnd.{LaneEnd}
+use Rattle.lanes.specs.declared.ending.LaneEnd.{LaneEnd}
 use Rattle.formats.specs.Records.{version_of}
 use Rattle.line_chunks.specs.ChunkText.{ChunkTextValue, RecordStyle}
 use Rattle.set_run.specs.Events.{Event, LaneEvent, Answered, Ended, answers_among, lane_events, of_lane}

@@ -5,7 +5,7 @@ use Rattle.std.specs.List.{concat}
 use Rattle.std.proofs.Math.ListN.{set}
 use Rattle.std.proofs.lemmas.List.{length-set, set-get_or}
 use Rattle.run_plan.specs.declared.version.Version.{Version}
-use Rattle.line_lane.specs.declared.ending.LaneEnd.{LaneEnd}
+use Rattle.lanes.specs.declared.ending.LaneEnd.{LaneEnd}
 use Rattle.line_chunks.specs.ChunkText.{ChunkTextValue}
 use Rattle.set_run.specs.declared.collector.Refusal.{Refusal}
 use Rattle.set_run.specs.Events.{Event, LaneEvent, Answered, Ended, Gets, answers_among, of_lane}

@@ -7,9 +7,9 @@ use Rattle.std.specs.Arc.{arc_value}
 use Rattle.std.specs.declared.sync.Arc.{Arc}
 use Rattle.std.specs.declared.alloc.Global.{Global}
 use Rattle.set_line.specs.Terms.{TermsValue}
-use Rattle.line_lane.specs.declared.fault.SourceFault.{SourceFault}
-use Rattle.line_lane.specs.declared.ending.LaneEnd.{LaneEnd}
-use Rattle.line_lane.specs.declared.ending.LaneEnd.TheVariants.{Complete}
+use Rattle.lanes.specs.declared.fault.SourceFault.{SourceFault}
+use Rattle.lanes.specs.declared.ending.LaneEnd.{LaneEnd}
+use Rattle.lanes.specs.declared.ending.LaneEnd.TheVariants.{Complete}
 use Rattle.line_chunks.specs.ChunkText.{ChunkTextValue, RecordStyle}
 use Rattle.set_run.specs.Events.{Event, answers_in}
 use Rattle.set_run.specs.Reports.{AreReported, IsTrueToSource}

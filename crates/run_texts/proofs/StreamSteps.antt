@@ -5,7 +5,7 @@ use Rattle.std.proofs.lemmas.List.{set-get_or}
 use Rattle.std.specs.List.{concat}
 use Rattle.std.specs.Io.KnownBytes.{Keeps}
 use Rattle.run_plan.specs.declared.version.Version.{Version}
-use Rattle.line_lane.specs.declared.ending.LaneEnd.{LaneEnd}
+use Rattle.lanes.specs.declared.ending.LaneEnd.{LaneEnd}
 use Rattle.set_run.specs.Events.{Event, LaneEvent, Answered, Ended, answers_in}
 use Rattle.formats.specs.Records.{version_of}
 use Rattle.line_chunks.specs.ChunkText.{ChunkTextValue, RecordStyle}

@@ -6,7 +6,7 @@ use Rattle.std.specs.declared.sync.Arc.{Arc}
 use Rattle.std.specs.declared.alloc.Global.{Global}
 use Rattle.set_line.specs.Terms.{TermsValue}
 use Rattle.set_line.specs.Answer.{AnswerValue}
-use Rattle.line_lane.specs.declared.fault.SourceFault.{SourceFault}
+use Rattle.lanes.specs.declared.fault.SourceFault.{SourceFault}
 use Rattle.line_chunks.specs.Chunks.{ChunkValue, cut, lines_of_chunk, numbered_cuts}
 use Rattle.line_chunks.specs.ChunkText.{ChunkTextValue, MakerValue, RecordStyle, chunk_text}
 use Rattle.line_chunks.specs.Reading.{ReadsFrom, Told, told, told_unread}

@@ -6,9 +6,9 @@ use Rattle.run_plan.specs.declared.version.Version.{Version}
 use Rattle.run_plan.specs.declared.version.Version.TheVariants.{One, Two, Json}
 use Rattle.set_line.specs.Answer.{AnswerValue}
 use Rattle.set_line.specs.Record.{record_text}
-use Rattle.line_lane.specs.declared.fault.SourceFault.TheVariants.{Read, OutOfMemory, ReadBound}
-use Rattle.line_lane.specs.declared.ending.LaneEnd.{LaneEnd}
-use Rattle.line_lane.specs.declared.ending.LaneEnd.TheVariants.{Complete, SourceFailed, GaveUp}
+use Rattle.lanes.specs.declared.fault.SourceFault.TheVariants.{Read, OutOfMemory, ReadBound}
+use Rattle.lanes.specs.declared.ending.LaneEnd.{LaneEnd}
+use Rattle.lanes.specs.declared.ending.LaneEnd.TheVariants.{Complete, SourceFailed, GaveUp}
 use Rattle.encodings.specs.declared.encoding.Encoding.{Encoding}
 use Rattle.formats.specs.Records.{version_of}
 use Rattle.formats.specs.declared.record_format.RecordFormat.{RecordFormat}

@@ -6,7 +6,7 @@ use Rattle.std.specs.Io.KnownBytes.{Appends}
 use Rattle.set_line.specs.Answer.{AnswerValue}
 use Rattle.formats.specs.Records.{version_of}
 use Rattle.line_chunks.specs.ChunkText.{RecordStyle}
-use Rattle.line_lane.specs.declared.ending.LaneEnd.{LaneEnd}
+use Rattle.lanes.specs.declared.ending.LaneEnd.{LaneEnd}
 use Rattle.set_run.specs.declared.report.LaneReport.{LaneReport}
 use Rattle.run_texts.specs.RunText.{end_text, head_text, lane_text, record_of, why_of}
 

@@ -11,7 +11,7 @@ use crate::buffer::{Buffer, FULL, ROOM};
 use crate::lane_count::{Counted, LaneCount};
 use crate::writing::write_text;
 use line_chunks::ChunkText;
-use line_lane::LaneEnd;
+use lanes::LaneEnd;
 use set_line::Version;
 use set_run::Refusal;
 use std::alloc::{AllocError, Global};

@@ -8,7 +8,7 @@ ghost use Rattle.run_texts.specs.RunText.{end_text, head_text, json_end, why_of,
 use crate::lane_count::LaneCount;
 use itoa::Buffer;
 use line_chunks::ChunkText;
-use line_lane::{LaneEnd, SourceFault};
+use lanes::{LaneEnd, SourceFault};
 use set_line::Version;
 use set_run::Refusal;
 use std::alloc::AllocError;

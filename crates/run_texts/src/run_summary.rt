@@ -2,12 +2,12 @@
 ghost use Rattle.std.specs.Prelude.{◌≡◌, ℕ, false, map, min, ◌-◌, ◌^◌, Option, sum_by};
 ghost use Rattle.std.specs.List.{list_any};
 ghost use Rattle.std.specs.Option.{option_map_or};
-ghost use Rattle.line_lane.specs.declared.ending.LaneEnd.{LaneEnd as End};
+ghost use Rattle.lanes.specs.declared.ending.LaneEnd.{LaneEnd as End};
 ghost use Rattle.run_texts.specs.ReportText.{is_unread, is_wanting, summary_of_ends};
 
 use crate::Summary;
 use crate::lane_count::Counted;
-use line_lane::{LaneEnd, SourceFault};
+use lanes::{LaneEnd, SourceFault};
 use set_run::{ClosedLane, LaneReport};
 
 /// Returns the number of refused lines of all lanes, or 2^64 - 1 if it is larger.

@@ -13,7 +13,7 @@ use crate::lane_text::LaneText;
 use crate::record::push_head;
 use crate::writing::write_text;
 use line_chunks::{ChunkText, LineCounts};
-use line_lane::LaneEnd;
+use lanes::LaneEnd;
 use set_line::Version;
 use set_run::{Collector, Refusal};
 use std::alloc::{AllocError, Global};

@@ -9,7 +9,7 @@ use crate::lane_count::LaneCount;
 use crate::record::push_head;
 use crate::writing::write_some;
 use line_chunks::{ChunkText, LineCounts};
-use line_lane::LaneEnd;
+use lanes::LaneEnd;
 use set_line::Version;
 use set_run::Refusal;
 use std::alloc::{AllocError, Global};

@@ -20,7 +20,7 @@ use crate::run_summary::{all_refused, summary_of};
 use crate::stream::{Stream, first_buffer, no_answers, write_buffer};
 use crate::{OutputOptions, Summary, ToolFault};
 use line_chunks::{ChunkReader, ChunkText, LineCounts};
-use line_lane::LaneEnd;
+use lanes::LaneEnd;
 use set_line::Terms;
 use set_run::{Collector, Gate, MOST_SOURCES, Refusal, RunEnd, RunFault, run_items};
 use std::alloc::Global;

@@ -95,6 +95,10 @@ outcome_of terms line = option_map_or Refused (refusal_of terms line) (set_or_re
 abbrev pub answer_of : TermsValue → List ℕ → AnswerValue
 answer_of terms line = record { terms = terms; line = line; outcome = outcome_of terms line }
 
+-- the answers to lines with these settings
+abbrev pub answers_of : TermsValue → List (List ℕ) → List AnswerValue
+answers_of terms lines = map (answer_of terms) lines
+
 -- the result in an answer is the defined one for its settings and its line
 abbrev pub IsRight : AnswerValue → Type 0
 IsRight answer = answer.outcome ≡ outcome_of answer.terms answer.line

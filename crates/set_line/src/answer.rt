@@ -3,6 +3,7 @@ ghost use Rattle.std.specs.Arc.{arc_value};
 ghost use Rattle.set_line.specs.Answer.{IsRight, answer_of, outcome_of};
 
 use crate::{Line, Outcome, Terms};
+use run_plan::{InlineSlots, Made, Stored};
 use std::marker::Model;
 use std::sync::Arc;
 
@@ -59,5 +60,20 @@ impl Answer {
         ensures right { IsRight self.now }
     {
         &self.outcome
+    }
+}
+
+impl Stored for Answer {
+    type Slots = InlineSlots<Answer>;
+}
+
+/// An answer is right if its outcome is the defined one for its line and settings.
+impl Made for Answer {
+    ghost use Rattle.set_line.specs.Answer.{IsRight};
+
+    ghost is_right = { IsRight };
+
+    fn show_right(&self) {
+        let _ = self.outcome();
     }
 }

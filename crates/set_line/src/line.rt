@@ -1,5 +1,6 @@
 ghost use Rattle.std.specs.Prelude.{◌≡◌};
 
+use run_plan::{InlineSlots, Stored};
 use std::marker::Model;
 
 /// A line of text without its line feed. Byte 32 is a space, and each other byte is a character code.
@@ -36,4 +37,8 @@ impl Line {
     {
         self.bytes
     }
+}
+
+impl Stored for Line {
+    type Slots = InlineSlots<Line>;
 }

@@ -4,11 +4,10 @@ use Rattle.std.proofs.lemmas.List.{length-map, length-append}
 use Rattle.std.proofs.Math.Seq.{take-append_seam}
 use Rattle.std.specs.Prelude.{⊤}
 use Rattle.set_line.specs.Terms.{TermsValue}
-use Rattle.set_line.specs.Answer.{AnswerValue, answer_of}
-use Rattle.line_lane.specs.Lane.{answers_of}
-use Rattle.line_lane.specs.declared.fault.SourceFault.{SourceFault}
-use Rattle.line_lane.specs.declared.ending.SourceEnd.{SourceEnd}
-use Rattle.line_lane.specs.declared.ending.SourceEnd.TheVariants.{Complete as SourceComplete, Failed}
+use Rattle.set_line.specs.Answer.{AnswerValue, answer_of, answers_of}
+use Rattle.lanes.specs.declared.fault.SourceFault.{SourceFault}
+use Rattle.lanes.specs.declared.ending.SourceEnd.{SourceEnd}
+use Rattle.lanes.specs.declared.ending.SourceEnd.TheVariants.{Complete as SourceComplete, Failed}
 use Rattle.set_run.specs.Calls.{HasEnded, HasReturned}
 use Rattle.set_run.specs.Sources.{GivesNext, HasGiven, HasNoMore, gives_line}
 use Rattle.set_run.specs.Closed.{IsClosedOf}

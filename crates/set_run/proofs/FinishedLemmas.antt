@@ -6,11 +6,10 @@ use Rattle.std.specs.Arc.{arc_value}
 use Rattle.std.specs.declared.sync.Arc.{Arc}
 use Rattle.std.specs.declared.alloc.Global.{Global}
 use Rattle.set_line.specs.Terms.{TermsValue}
-use Rattle.set_line.specs.Answer.{AnswerValue, answer_of}
-use Rattle.line_lane.specs.Lane.{answers_of}
-use Rattle.line_lane.specs.declared.fault.SourceFault.{SourceFault}
-use Rattle.line_lane.specs.declared.ending.LaneEnd.{LaneEnd}
-use Rattle.line_lane.specs.declared.ending.LaneEnd.TheVariants.{Complete}
+use Rattle.set_line.specs.Answer.{AnswerValue, answer_of, answers_of}
+use Rattle.lanes.specs.declared.fault.SourceFault.{SourceFault}
+use Rattle.lanes.specs.declared.ending.LaneEnd.{LaneEnd}
+use Rattle.lanes.specs.declared.ending.LaneEnd.TheVariants.{Complete}
 use Rattle.set_run.specs.Events.{Event, answers_in}
 use Rattle.set_run.specs.Closed.{AreClosedOf, HasNoOthers}
 use Rattle.set_run.specs.Reports.{AreAllAnswers, AreAnswered, AreReported, AreReportsOf, IsTrueToSource}

@@ -1,10 +1,10 @@
 -- What a source returned, call by call.
 use Rattle.std.proofs.Common.{rules, ◌≡◌, Bool, true, false, List, [], ◌∷◌, ◌++◌, Option, Some, None, refl, ap, sym, subst, ◌∙◌, append-nil}
 use Rattle.std.specs.Prelude.{Result, Ok, Err, if◌then◌else◌}
-use Rattle.line_lane.specs.Messages.{first_end}
-use Rattle.line_lane.specs.declared.ending.SourceEnd.{SourceEnd}
-use Rattle.line_lane.specs.declared.ending.SourceEnd.TheVariants.{Complete, Failed}
-use Rattle.line_lane.specs.declared.fault.SourceFault.{SourceFault}
+use Rattle.lanes.specs.Messages.{first_end}
+use Rattle.lanes.specs.declared.ending.SourceEnd.{SourceEnd}
+use Rattle.lanes.specs.declared.ending.SourceEnd.TheVariants.{Complete, Failed}
+use Rattle.lanes.specs.declared.fault.SourceFault.{SourceFault}
 use Rattle.set_run.specs.Calls.{HasEnded, HasReturned, IsFedFrom, WasRead}
 
 module _ {S I : Type 0} (gives : S → Result (Option I) SourceFault → S → Type 0) where

@@ -5,18 +5,18 @@ use Rattle.std.specs.Prelude.{map, is_some, All, Result}
 use Rattle.std.specs.List.{AllZip, remove}
 use Rattle.std.proofs.lemmas.List.Elements.{AllZip-get_or, length_all_zip}
 use Rattle.std.specs.Option.{option_map}
-use Rattle.line_lane.specs.Lane.{lane_end_of, pipeline}
-use Rattle.line_lane.specs.Ends.{SameSetter}
+use Rattle.lanes.specs.Lane.{lane_end_of, pipeline}
+use Rattle.lanes.specs.Ends.{SameSetter}
 use Rattle.dealt_lanes.specs.Dealt.{dealer_end, dealt, gathered}
 use Rattle.dealt_lanes.specs.Settled.{AllMake}
-use Rattle.line_lane.specs.Rings.{IsFirstOf}
-use Rattle.line_lane.specs.declared.making.Making.{Ghosts}
-use Rattle.line_lane.specs.declared.setter.Setter.{Setter}
-use Rattle.line_lane.specs.declared.fault.SourceFault.{SourceFault}
-use Rattle.line_lane.specs.declared.ending.SourceEnd.{SourceEnd}
-use Rattle.line_lane.specs.declared.ending.SourceEnd.TheVariants.{Complete as SourceComplete, Failed}
-use Rattle.line_lane.specs.declared.ending.LaneEnd.{LaneEnd}
-use Rattle.line_lane.specs.declared.ending.LaneEnd.TheVariants.{Complete, SourceFailed, GaveUp}
+use Rattle.lanes.specs.Rings.{IsFirstOf}
+use Rattle.lanes.specs.declared.making.Making.{Ghosts}
+use Rattle.lanes.specs.declared.setter.Setter.{Setter}
+use Rattle.lanes.specs.declared.fault.SourceFault.{SourceFault}
+use Rattle.lanes.specs.declared.ending.SourceEnd.{SourceEnd}
+use Rattle.lanes.specs.declared.ending.SourceEnd.TheVariants.{Complete as SourceComplete, Failed}
+use Rattle.lanes.specs.declared.ending.LaneEnd.{LaneEnd}
+use Rattle.lanes.specs.declared.ending.LaneEnd.TheVariants.{Complete, SourceFailed, GaveUp}
 use Rattle.set_run.specs.Calls.{IsFedFrom, WasRead}
 use Rattle.set_run.specs.Given.{HandsBack}
 use Rattle.set_run.specs.Closed.{IsClosedOf}

@@ -4,18 +4,18 @@ use Rattle.std.proofs.lemmas.List.{get_or_default}
 use Rattle.std.proofs.lemmas.List.Elements.{AllZip-get_or, length_all_zip}
 use Rattle.std.specs.List.{AllZip}
 use Rattle.dealt_lanes.specs.Lanes.{AllThree}
-use Rattle.line_lane.specs.Messages.{first_end}
-use Rattle.line_lane.specs.declared.ending.SourceEnd.{SourceEnd}
+use Rattle.lanes.specs.Messages.{first_end}
+use Rattle.lanes.specs.declared.ending.SourceEnd.{SourceEnd}
 use Rattle.dealt_lanes.specs.Dealt.{SameDealer}
 use Rattle.dealt_lanes.specs.declared.dealer.Dealer.{Dealer}
 use Rattle.dealt_lanes.proofs.SameEnds.{feeder_refl, feeder_trans, taker_refl, taker_trans}
 use Rattle.dealt_lanes.proofs.Zips.{zip_refl}
 use Rattle.set_run.proofs.Zips.{zip_trans}
-use Rattle.line_lane.specs.Ends.{IsLane, SameFeeder, SameSetter, SameTaker}
-use Rattle.line_lane.specs.declared.making.Making.{Ghosts}
-use Rattle.line_lane.specs.declared.feeder.Feeder.{Feeder}
-use Rattle.line_lane.specs.declared.setter.Setter.{Setter}
-use Rattle.line_lane.specs.declared.taker.Taker.{Taker}
+use Rattle.lanes.specs.Ends.{IsLane, SameFeeder, SameSetter, SameTaker}
+use Rattle.lanes.specs.declared.making.Making.{Ghosts}
+use Rattle.lanes.specs.declared.feeder.Feeder.{Feeder}
+use Rattle.lanes.specs.declared.setter.Setter.{Setter}
+use Rattle.lanes.specs.declared.taker.Taker.{Taker}
 use Rattle.set_run.specs.Collecting.{SameLane}
 use Rattle.set_run.specs.declared.collecting.lane_taker.LaneTaker.{LaneTaker}
 

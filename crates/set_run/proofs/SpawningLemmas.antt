@@ -5,11 +5,11 @@ use Rattle.std.specs.Prelude.{map, set, All, IsSome, IsTrue, is_none, Result, Ok
 use Rattle.std.specs.Result.{is_err}
 use Rattle.std.proofs.lemmas.Bool.{false≢true}
 use Rattle.std.specs.List.{AllZip}
-use Rattle.line_lane.specs.Ends.{SameFeeder, SameSetter}
+use Rattle.lanes.specs.Ends.{SameFeeder, SameSetter}
 use Rattle.dealt_lanes.specs.Dealt.{SameDealer, dealer_lanes, gathered}
-use Rattle.line_lane.specs.declared.making.Making.{Ghosts}
-use Rattle.line_lane.specs.declared.setter.Setter.{Setter}
-use Rattle.line_lane.specs.declared.fault.SourceFault.{SourceFault}
+use Rattle.lanes.specs.declared.making.Making.{Ghosts}
+use Rattle.lanes.specs.declared.setter.Setter.{Setter}
+use Rattle.lanes.specs.declared.fault.SourceFault.{SourceFault}
 use Rattle.set_run.specs.Events.{Event, answers_in, lane_events, of_lane}
 use Rattle.set_run.specs.Workers.{HasOneMore, HaveMore}
 use Rattle.set_run.specs.Collecting.{AllLanes, IsFreshTaker, IsTold, IsToldBy, IsToldFirst, SameLane}

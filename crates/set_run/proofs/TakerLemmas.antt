@@ -3,9 +3,9 @@ use Rattle.std.proofs.Common.{arith, ◌≡◌, ℕ, zero, suc, ◌+◌, ◌<◌
 use Rattle.std.proofs.Math.Seq.{take-length, take-append_seam}
 use Rattle.std.specs.Prelude.{set, is_none, is_ok, is_some, Result, Ok, Err}
 use Rattle.std.specs.Result.{result_err}
-use Rattle.line_lane.specs.Rings.{IsFirstOf}
+use Rattle.lanes.specs.Rings.{IsFirstOf}
 use Rattle.dealt_lanes.specs.Dealt.{gathered, gatherer_end}
-use Rattle.line_lane.specs.declared.ending.LaneEnd.{LaneEnd}
+use Rattle.lanes.specs.declared.ending.LaneEnd.{LaneEnd}
 use Rattle.set_run.specs.Events.{LaneEvent, Answered, Ended, Event, Gets, Keeps, of_lane, answers_among, lane_events}
 use Rattle.set_run.specs.Collecting.{AllLanes, IsTold, IsToldBy, IsToldFirst, SameOthers, TellsLane, TellsLanes}
 use Rattle.set_run.specs.declared.collecting.lane_taker.LaneTaker.{LaneTaker}

@@ -1,9 +1,9 @@
 -- The calls of `next_item` of a source: the items that they returned, one after the other, and the end.
 -- This project's own.
 use Rattle.std.specs.Prelude.{◌≡◌, List, [], ◌∷◌, ◌++◌, Option, Some, None, Result, Ok, Err}
-use Rattle.line_lane.specs.declared.ending.SourceEnd.{SourceEnd}
-use Rattle.line_lane.specs.declared.ending.SourceEnd.TheVariants.{Complete, Failed}
-use Rattle.line_lane.specs.declared.fault.SourceFault.{SourceFault}
+use Rattle.lanes.specs.declared.ending.SourceEnd.{SourceEnd}
+use Rattle.lanes.specs.declared.ending.SourceEnd.TheVariants.{Complete, Failed}
+use Rattle.lanes.specs.declared.fault.SourceFault.{SourceFault}
 
 module _ {S I : Type 0} (gives : S → Result (Option I) SourceFault → S → Type 0) where
   -- the source returned these items, by one call after the other

@@ -1,8 +1,8 @@
 -- The gatherers of the sources' lanes, compared with the events of these lanes that a collector has received.
 -- This project's own.
 use Rattle.std.specs.Prelude.{◌≡◌, ◌≤◌, ℕ, ◌+◌, Bool, true, false, List, [], ◌∷◌, length, None, Some, IsSome, is_some}
-use Rattle.line_lane.specs.Rings.{IsFirstOf}
-use Rattle.line_lane.specs.declared.ending.LaneEnd.TheVariants.{GaveUp}
+use Rattle.lanes.specs.Rings.{IsFirstOf}
+use Rattle.lanes.specs.declared.ending.LaneEnd.TheVariants.{GaveUp}
 use Rattle.dealt_lanes.specs.Takers.{HaveEnded}
 use Rattle.dealt_lanes.specs.Dealt.{SameGatherer, gathered, gatherer_end}
 use Rattle.set_run.specs.Events.{Event, LaneEvent, answers_among, lane_events, of_lane}

@@ -2,7 +2,7 @@
 -- type of the results.
 -- This project's own.
 use Rattle.std.specs.Prelude.{ℕ, ◌==◌, Bool, true, false, List, [], ◌∷◌, ◌++◌, Option, Some, None, if◌then◌else◌}
-use Rattle.line_lane.specs.declared.ending.LaneEnd.{LaneEnd}
+use Rattle.lanes.specs.declared.ending.LaneEnd.{LaneEnd}
 
 -- an event of a lane: its next result, or its end
 pub data LaneEvent (O : Type 0) : Type 0 where

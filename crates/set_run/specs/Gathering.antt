@@ -2,7 +2,7 @@
 -- This project's own.
 use Rattle.std.specs.Prelude.{◌≡◌, ℕ, ◌+◌, List, [], length, map, All, Option, Result, IsSome, IsTrue, is_none}
 use Rattle.std.specs.List.{AllZip}
-use Rattle.line_lane.specs.declared.fault.SourceFault.{SourceFault}
+use Rattle.lanes.specs.declared.fault.SourceFault.{SourceFault}
 use Rattle.set_run.specs.Events.{Event}
 use Rattle.set_run.specs.Collecting.{AllLanes, IsFreshTaker, IsToldFirst, SameLane, TellsLanes}
 use Rattle.set_run.specs.Closed.{AreBack, AreClosedOf, HasNoOthers}

@@ -2,10 +2,10 @@
 -- This project's own.
 use Rattle.std.specs.Prelude.{◌≡◌, [], Option, None, Result}
 use Rattle.dealt_lanes.specs.Dealt.{SameDealer, dealer_end, dealt}
-use Rattle.line_lane.specs.declared.fault.SourceFault.{SourceFault}
+use Rattle.lanes.specs.declared.fault.SourceFault.{SourceFault}
 use Rattle.set_run.specs.Calls.{IsFedFrom}
-use Rattle.line_lane.specs.declared.offer_fault.OfferFault.{OfferFault}
-use Rattle.line_lane.specs.declared.offer_fault.OfferFault.TheVariants.{Closed, NoRoom}
+use Rattle.lanes.specs.declared.offer_fault.OfferFault.{OfferFault}
+use Rattle.lanes.specs.declared.offer_fault.OfferFault.TheVariants.{Closed, NoRoom}
 use Rattle.set_run.specs.declared.threads.source_thread.Feeding.{Feeding}
 
 module _ {I : Type 0} where

@@ -1,8 +1,8 @@
 -- The lanes of a source when they are opened and when they are closed.
 -- This project's own.
 use Rattle.std.specs.Prelude.{◌≡◌, ◌*◌, ℕ, List, [], ◌∷◌, ◌++◌, length, None}
-use Rattle.line_lane.specs.declared.making.Making.{Ghosts}
-use Rattle.line_lane.specs.declared.setter.Setter.{Setter}
+use Rattle.lanes.specs.declared.making.Making.{Ghosts}
+use Rattle.lanes.specs.declared.setter.Setter.{Setter}
 use Rattle.dealt_lanes.specs.Dealt.{dealer_end, dealt}
 use Rattle.dealt_lanes.specs.Settled.{AllMake, AreDealtLanes, AreSettled}
 use Rattle.dealt_lanes.specs.declared.dealer.Dealer.{Dealer}

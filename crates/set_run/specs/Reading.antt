@@ -3,7 +3,7 @@
 use Rattle.std.specs.Prelude.{◌≡◌, ℕ, Bool, true, false, List, [], ◌∷◌, ◌++◌, Option, Some, None, IfSome}
 use Rattle.std.specs.Option.{option_map}
 use Rattle.std.specs.Io.KnownBytes.{Consumes}
-use Rattle.line_lane.specs.declared.fault.SourceFault.{SourceFault}
+use Rattle.lanes.specs.declared.fault.SourceFault.{SourceFault}
 use Rattle.set_line.specs.Lines.{lines_of, HasNoFeed}
 use Rattle.set_run.specs.declared.sources.reader_source.raw_line.RawLine.{RawLine}
 use Rattle.set_run.specs.declared.sources.reader_source.raw_line.RawLine.TheVariants.{Ended, Last}

@@ -6,10 +6,9 @@ use Rattle.std.specs.Arc.{arc_value}
 use Rattle.std.specs.declared.sync.Arc.{Arc}
 use Rattle.std.specs.declared.alloc.Global.{Global}
 use Rattle.set_line.specs.Terms.{TermsValue}
-use Rattle.set_line.specs.Answer.{AnswerValue}
-use Rattle.line_lane.specs.Lane.{answers_of}
-use Rattle.line_lane.specs.declared.fault.SourceFault.{SourceFault}
-use Rattle.line_lane.specs.declared.ending.LaneEnd.TheVariants.{Complete, SourceFailed}
+use Rattle.set_line.specs.Answer.{AnswerValue, answers_of}
+use Rattle.lanes.specs.declared.fault.SourceFault.{SourceFault}
+use Rattle.lanes.specs.declared.ending.LaneEnd.TheVariants.{Complete, SourceFailed}
 use Rattle.set_run.specs.Sources.{HasGiven}
 use Rattle.set_run.specs.declared.report.LaneReport.{LaneReport}
 use Rattle.set_run.specs.declared.run_end.ClosedLane.{ClosedLane}

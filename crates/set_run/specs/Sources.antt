@@ -2,8 +2,8 @@
 -- if it has failed; and how a call of `next_line` changes this state.
 -- This project's own.
 use Rattle.std.specs.Prelude.{◌≡◌, ◌≤◌, ℕ, List, [], ◌∷◌, ◌++◌, length, Option, Some, None, Result, Ok, Err, ⊤}
-use Rattle.line_lane.specs.Messages.{first_end}
-use Rattle.line_lane.specs.declared.fault.SourceFault.{SourceFault}
+use Rattle.lanes.specs.Messages.{first_end}
+use Rattle.lanes.specs.declared.fault.SourceFault.{SourceFault}
 
 -- this line was the first of those to come, and the others remain; nothing is stated if these aren't known
 abbrev pub GivesNext : List ℕ → Option (List (List ℕ)) → Option (List (List ℕ)) → Type 0

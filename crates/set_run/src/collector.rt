@@ -5,7 +5,7 @@ ghost use Rattle.set_run.specs.declared.collector.Refusal.{Refusal as Refused};
 ghost use Rattle.set_run.specs.declared.collector.Refusal.TheVariants.{OutOfMemory as NoMemory};
 ghost use Rattle.set_run.specs.Events.{Answered, Ended, Event, Gets, Keeps};
 
-use line_lane::{LaneEnd, Made, Stored};
+use lanes::{LaneEnd, Made, Stored};
 use std::alloc::AllocError;
 
 /// The reason why a collector takes no more.

@@ -10,8 +10,8 @@ use crate::threads::source_thread::Feeding;
 use crate::threads::worker::{Worker, give_all, take_back_all};
 use crate::{ClosedLane, Plan};
 use dealt_lanes::{Dealer, Shared, open_shared, settle_lanes};
-use line_lane::{Making, Setter, Stored};
-use set_line::OutOfMemory;
+use lanes::{Making, Setter, Stored};
+use run_plan::OutOfMemory;
 use std::alloc::Global;
 
 /// The lanes of a batch.

@@ -1,8 +1,8 @@
 //! The report of a batch.
 ghost use Rattle.std.specs.Prelude.{◌≡◌, ◌↔◌, ◌++◌, ◌∷◌, [], All, IsTrue, is_ok, if◌then◌else◌};
-ghost use Rattle.line_lane.specs.declared.ending.LaneEnd.TheVariants.{Complete};
+ghost use Rattle.lanes.specs.declared.ending.LaneEnd.TheVariants.{Complete};
 
-use line_lane::LaneEnd;
+use lanes::LaneEnd;
 use set_line::Answer;
 use std::alloc::AllocError;
 use std::marker::Model;

@@ -1,6 +1,6 @@
 //! How a batch with a collector ended.
 use crate::Refusal;
-use line_lane::LaneEnd;
+use lanes::LaneEnd;
 
 /// A source whose results a collector received, and the end of its lane.
 #[derive(Drop)]

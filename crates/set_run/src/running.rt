@@ -1,7 +1,7 @@
 //! A batch that returns a report of all results.
 ghost use Rattle.std.specs.Prelude.{◌≡◌, ◌<◌, ◌≤◌, ◌⊎◌, [], All, Err, IfOk, IfErr, IsSome, MatchResult, map, vec_len};
 ghost use Rattle.set_run.specs.declared.run_fault.RunFault.TheVariants.{TooManySources, OutOfMemory as NoMemory, Thread};
-ghost use Rattle.line_lane.specs.declared.ending.LaneEnd.TheVariants.{Complete};
+ghost use Rattle.lanes.specs.declared.ending.LaneEnd.TheVariants.{Complete};
 ghost use Rattle.set_run.specs.Closed.{AreBack};
 ghost use Rattle.set_run.specs.Reports.{AreAnswered, AreReported, AreReportsOf};
 
@@ -10,10 +10,26 @@ use crate::{
     Answers, ClosedLane, Gate, ItemOptions, LaneReport, LineSource, MOST_SOURCES, Plan, Report,
     RunFault, run_items,
 };
+use line_lane::LineMaker;
 use set_line::Terms;
 use std::alloc::{AllocError, Global};
 use std::sync::{Arc, Wait};
 use std::thread::Threads;
+
+/// Returns the sources, each with the maker of its answers. The error means that an allocation failed.
+fn with_makers<S: Drop>(
+    alloc: Global,
+    sources: Vec<(S, Arc<Terms>)>,
+) -> Result<Vec<(S, LineMaker)>, AllocError>
+    ensures { IfOk result (λ made. made.items ≡ sources.items) }
+{
+    let mut made = Vec::with_capacity(alloc, sources.len())?;
+    for pair in sources {
+        let (source, terms) = pair;
+        made.push((source, LineMaker::new(terms)))?;
+    }
+    Ok(made)
+}
 
 /// Returns the reports of lanes that have all ended, each with its results. The error means that an
 /// allocation failed.
@@ -77,9 +93,10 @@ pub fn run<R: Threads + Wait + Sync, S: LineSource + Send + Drop, G: Gate + Sync
         return Err(RunFault::TooManySources);
     }
     let lists = AnswerLists::new(alloc, sources.len())?;
+    let made = with_makers(alloc, sources)?;
     let lanes = 1;
     let options = ItemOptions { plan, gate, lanes };
-    let (lists, ended) = run_items(rt, alloc, sources, options, lists);
+    let (lists, ended) = run_items(rt, alloc, made, options, lists);
     let ended = ended?;
     if ended.refusal.is_some() {
         return Err(RunFault::OutOfMemory);

@@ -15,7 +15,7 @@ use crate::threads::spawning::start_sources;
 use crate::threads::worker::Worker;
 use crate::{ClosedLane, Collector, Gate, ItemSource, Plan, RunEnd, RunFault};
 use dealt_lanes::Shared;
-use line_lane::{Making, Stored};
+use lanes::{Making, Stored};
 use std::alloc::{AllocError, Global};
 use std::sync::Wait;
 use std::thread;

@@ -1,9 +1,9 @@
 //! Sources: of lines, and of other items.
 ghost use Rattle.std.specs.Prelude.{◌≡◌, ℕ, List, Option, Result};
-ghost use Rattle.line_lane.specs.declared.fault.SourceFault.{SourceFault as Fault};
+ghost use Rattle.lanes.specs.declared.fault.SourceFault.{SourceFault as Fault};
 ghost use Rattle.set_run.specs.Sources.{Reads};
 
-use line_lane::SourceFault;
+use lanes::SourceFault;
 use set_line::Line;
 
 pub(crate) mod list_source;
@@ -28,7 +28,7 @@ pub trait LineSource {
         ensures origin { origin self.new ≡ origin self.old };
 }
 
-/// A source of items: of lines, or of other items of which a [`Making`](line_lane::Making) makes results.
+/// A source of items: of lines, or of other items of which a [`Making`](lanes::Making) makes results.
 /// Each [`LineSource`] is a source of lines, without an `impl` of its own.
 ///
 /// For the proof: `next_gives` describes a call of `next_item`: it relates the source before the call to the

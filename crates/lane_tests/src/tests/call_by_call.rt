@@ -3,11 +3,11 @@ ghost use Rattle.std.specs.Prelude.{◌≡◌, ◌∷◌, ◌++◌, []};
 
 use super::lane::{Lane, Named, end_of};
 use super::numbers::Same;
-use line_lane::Made;
-use set_line::{Answer, Line, LineRefusal, Outcome, Terms};
+use lanes::Made;
+use line_lane::LineMaker;
+use set_line::{Answer, Line, LineRefusal, Outcome};
 use std::alloc::Global;
 use std::process::Abort;
-use std::sync::Arc;
 use test_support::line;
 use test_support::terms::plain_terms;
 
@@ -16,7 +16,7 @@ static LINES: [(&str, i64); 5] = table! {
     "a", 327_680; "b", 163_840; "c", 491_520; "d", 100; "e", 101;
 };
 
-impl Named for Arc<Terms> {
+impl Named for LineMaker {
     fn item(alloc: Global, name: &str) -> Option<Line> {
         line(alloc, name.as_bytes())
     }
@@ -116,7 +116,8 @@ where
 #[test]
 fn a_lane_call_by_call(rt: HostRuntime) {
     for script in &LINE_SCRIPTS {
-        plays(&rt, plain_terms(rt.alloc()).expect(&rt, "memory"), *script);
+        let terms = plain_terms(rt.alloc()).expect(&rt, "memory");
+        plays(&rt, LineMaker::new(terms), *script);
     }
     for script in &NUMBER_SCRIPTS {
         plays(&rt, Same, *script);
@@ -133,9 +134,9 @@ static TWO_LANES: [(&str, &str); 2] = table! {
 };
 
 /// A lane of lines, after these calls.
-fn begun<R: Abort + AllocGlobal>(rt: &R, calls: &str) -> Lane<Arc<Terms>> {
+fn begun<R: Abort + AllocGlobal>(rt: &R, calls: &str) -> Lane<LineMaker> {
     let terms = plain_terms(rt.alloc()).expect(rt, "memory");
-    let lane = Lane::open(rt.alloc(), terms, (4, 1)).expect(rt, "memory");
+    let lane = Lane::open(rt.alloc(), LineMaker::new(terms), (4, 1)).expect(rt, "memory");
     goes_on(rt, lane, calls).expect(rt, "a lane that isn't settled")
 }
 

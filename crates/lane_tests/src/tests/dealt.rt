@@ -2,7 +2,7 @@
 use super::lane::{Named, is_offered, is_taken, turn_of};
 use super::numbers::{Number, Same};
 use dealt_lanes::{Dealer, Gatherer, open_shared};
-use line_lane::{Setter, SourceEnd};
+use lanes::{Setter, SourceEnd};
 use std::alloc::Global;
 use test_support::sizes;
 

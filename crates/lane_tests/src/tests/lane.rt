@@ -1,7 +1,7 @@
 //! A lane whose three endpoints are in one place, and its calls by name.
-ghost use Rattle.line_lane.specs.Ends.{IsLane};
+ghost use Rattle.lanes.specs.Ends.{IsLane};
 
-use line_lane::{
+use lanes::{
     Feeder, LaneEnd, Made, Making, OfferFault, Open, Setter, SourceEnd, SourceFault, Taker, Took,
     Turn, open, settle,
 };

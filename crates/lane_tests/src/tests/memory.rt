@@ -3,7 +3,8 @@
 //! of the later ones fails, the call reports that memory is lacking. A second call of `open` then succeeds, and a
 //! line that was taken but not set is set by the next turn. The text that is printed states which case it was.
 use super::lane::Lane;
-use line_lane::{LaneEnd, SourceEnd, Took, Turn};
+use lanes::{LaneEnd, SourceEnd, Took, Turn};
+use line_lane::LineMaker;
 use set_line::{OutOfMemory, Terms};
 use std::alloc::Global;
 use std::process::Abort;
@@ -15,10 +16,10 @@ use test_support::terms::ligature_terms;
 /// Opens a lane with these terms, again if memory was refused. Returns what became of it.
 fn told_of_opening<R: Abort + AllocGlobal>(rt: &R, terms: Arc<Terms>) -> &'static str {
     let again = terms.clone().expect(rt, "memory");
-    if Lane::open(rt.alloc(), terms, (2, 2)).is_some() {
+    if Lane::open(rt.alloc(), LineMaker::new(terms), (2, 2)).is_some() {
         return "opened";
     }
-    assert!(rt; Lane::open(rt.alloc(), again, (2, 2)).is_some());
+    assert!(rt; Lane::open(rt.alloc(), LineMaker::new(again), (2, 2)).is_some());
     "out of memory, and opened again"
 }
 
@@ -32,13 +33,13 @@ fn a_refused_request_of_an_opening(rt: HostRuntime) -> Result<(), Fail> {
 }
 
 /// Feeds a line of a and b; `None` if an allocation fails.
-fn feed(alloc: Global, lane: &mut Lane<Arc<Terms>>) -> Option<()> {
+fn feed(alloc: Global, lane: &mut Lane<LineMaker>) -> Option<()> {
     lane.feeder.offer(line(alloc, b"ab")?).ok()
 }
 
 /// A closed lane with two lines in its first message, and one in the next; `None` if an allocation fails.
-fn ready(alloc: Global) -> Option<Lane<Arc<Terms>>> {
-    let mut lane = Lane::open(alloc, ligature_terms(alloc)?, (2, 2))?;
+fn ready(alloc: Global) -> Option<Lane<LineMaker>> {
+    let mut lane = Lane::open(alloc, LineMaker::new(ligature_terms(alloc)?), (2, 2))?;
     for _ in 0..3 {
         feed(alloc, &mut lane)?;
     }
@@ -50,7 +51,7 @@ fn ready(alloc: Global) -> Option<Lane<Arc<Terms>>> {
 }
 
 /// Takes this turn, again if memory was refused. Returns whether it was.
-fn takes_turn<R: Abort>(rt: &R, lane: &mut Lane<Arc<Terms>>, wanted: Turn) -> bool {
+fn takes_turn<R: Abort>(rt: &R, lane: &mut Lane<LineMaker>, wanted: Turn) -> bool {
     let turn = lane.setter.turn();
     if turn == Err(OutOfMemory) {
         assert!(rt; lane.setter.turn() == Ok(wanted));
@@ -60,13 +61,13 @@ fn takes_turn<R: Abort>(rt: &R, lane: &mut Lane<Arc<Terms>>, wanted: Turn) -> bo
     false
 }
 
-fn takes_answer(lane: &mut Lane<Arc<Terms>>) -> bool {
+fn takes_answer(lane: &mut Lane<LineMaker>) -> bool {
     matches!(lane.taker.take(), Took::Answer(_))
 }
 
 /// Two lines are received, set and sent in four turns, and the third one in three, with the end. The lane has
 /// then three results and its end, and is finished. Returns what became of the turns.
-fn told_of_turns<R: Abort>(rt: &R, lane: Lane<Arc<Terms>>) -> &'static str {
+fn told_of_turns<R: Abort>(rt: &R, lane: Lane<LineMaker>) -> &'static str {
     let mut lane = lane;
     let mut refused = 0u32;
     for number in 0..8u32 {

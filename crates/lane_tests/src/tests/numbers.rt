@@ -1,7 +1,7 @@
 //! Numbers as items of lanes, and as their own results.
 use super::lane::Named;
 use dealt_lanes::Shared;
-use line_lane::{Made, Making, Stored};
+use lanes::{Made, Making, Stored};
 use set_line::OutOfMemory;
 use std::alloc::Global;
 

@@ -1,5 +1,5 @@
 //! The three endpoints of a lane in three threads.
-ghost use Rattle.line_lane.specs.Ends.{SameFeeder, SameSetter, SameTaker};
+ghost use Rattle.lanes.specs.Ends.{SameFeeder, SameSetter, SameTaker};
 
 use line_lane::{Feeder, LaneEnd, OfferFault, Setter, SourceEnd, Taker, Took, Turn, open, settle};
 use set_line::{Answer, Line, OutOfMemory};

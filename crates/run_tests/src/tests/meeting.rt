@@ -2,7 +2,7 @@
 //! holds threads until others came by, and sources report when they are asked.
 use super::runs::{says, text_of_ab};
 use batch_support::{CountingGate, plan, with_terms};
-use line_lane::SourceFault;
+use lanes::SourceFault;
 use set_line::{Line, Terms};
 use set_run::{Gate, LineSource, Stage, run};
 use std::alloc::Global;

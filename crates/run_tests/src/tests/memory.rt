@@ -5,7 +5,7 @@
 //! lines of each source. The text that is printed states which case it was.
 use super::runs::three_sources;
 use batch_support::plan;
-use line_lane::LaneEnd;
+use lanes::LaneEnd;
 use set_run::{NoGate, RunFault, run};
 use std::test::Fail;
 

@@ -1,6 +1,6 @@
 //! Lines of readers, alone and in a batch.
 use batch_support::plan;
-use line_lane::{LaneEnd, SourceFault};
+use lanes::{LaneEnd, SourceFault};
 use set_line::{Line, lines};
 use set_run::{LineSource, NoGate, ReaderSource, run};
 use std::process::Abort;

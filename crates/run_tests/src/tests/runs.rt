@@ -1,6 +1,6 @@
 //! Batches, and their reports as text: the records of each source, and a line for its end.
 use batch_support::{CountingGate, FailingSource, plan, source_of, with_terms};
-use line_lane::{LaneEnd, SourceFault};
+use lanes::{LaneEnd, SourceFault};
 use set_line::{Line, Policy, Terms, Version, record};
 use set_run::{LaneReport, LineSource, ListSource, NoGate, ReaderSource, Report, RunFault, run};
 use std::alloc::Global;

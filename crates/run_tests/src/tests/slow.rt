@@ -1,12 +1,13 @@
 //! Batches of sources and collectors that take their time, wait for each other, or refuse.
-use batch_support::{plan, with_terms};
-use line_lane::{LaneEnd, SourceFault};
-use set_line::{Answer, Line, Terms};
+use batch_support::plan;
+use lanes::{LaneEnd, SourceFault};
+use line_lane::LineMaker;
+use set_line::{Answer, Line};
 use set_run::{Collector, Gate, ItemOptions, ItemSource, Refusal, RunEnd, Stage, run_items};
 use std::alloc::Global;
 use std::process::Abort;
 use std::sync::atomic::{AtomicBool, AtomicU32, Ordering};
-use std::sync::{Arc, Wait};
+use std::sync::Wait;
 use std::test::Fail;
 use std::thread::Threads;
 use std::time::{Clock, Duration};
@@ -252,14 +253,15 @@ impl<R: Clock> Collector for SlowCollector<'_, R> {
     }
 }
 
-/// The sources of a batch, with their settings; `None` if an allocation fails.
+/// The sources of a batch, with their makers; `None` if an allocation fails.
 fn sources_of<'a, R: Clock>(
     rt: &'a R,
     alloc: Global,
     count: usize,
     (lines, before): (u32, Before),
     shared: &'a Shared,
-) -> Option<Vec<(SlowSource<'a, R>, Arc<Terms>)>> {
+) -> Option<Vec<(SlowSource<'a, R>, LineMaker)>> {
+    let terms = plain_terms(alloc)?;
     let mut sources = Vec::with_capacity(alloc, count).ok()?;
     for number in 0..count {
         let source = SlowSource {
@@ -271,9 +273,10 @@ fn sources_of<'a, R: Clock>(
             given: 0,
             left: lines,
         };
-        sources.push(source).ok()?;
+        let maker = LineMaker::new(terms.clone().ok()?);
+        sources.push((source, maker)).ok()?;
     }
-    with_terms(alloc, &plain_terms(alloc)?, sources)
+    Some(sources)
 }
 
 /// The slots and the block of a lane; and the sources, the workers, and the lanes of a source.

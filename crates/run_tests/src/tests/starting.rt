@@ -7,11 +7,11 @@ ghost use Rattle.set_line.specs.Answer.{answer_of};
 use super::slow::{self, SlowCollector, WILLING};
 use batch_support::small_plan;
 use dealt_lanes::Shared;
-use line_lane::{Making, SourceFault};
-use set_line::{Answer, Line, OutOfMemory, Terms};
+use lanes::{Making, SourceFault};
+use line_lane::LineMaker;
+use set_line::{Answer, Line, OutOfMemory};
 use set_run::{ItemOptions, ItemSource, NoGate, RunFault, run_items};
 use std::alloc::Global;
-use std::sync::Arc;
 use std::sync::atomic::{AtomicBool, Ordering};
 use std::test::Fail;
 use std::thread;
@@ -21,12 +21,12 @@ use test_support::terms::plain_terms;
 /// How long a maker waits before it can't be shared, in milliseconds: by then a source would have been asked.
 const WAIT: u64 = 30;
 
-/// The settings of a source. If these lack memory, they can't be shared for the second lane of the source, and the
+/// The maker of a source. If it lacks memory, it can't be shared for the second lane of the source, and the
 /// batch ends before a thread of the source is started.
 #[derive(Drop)]
 struct Scarce<'a, R> {
     rt: &'a R,
-    terms: Arc<Terms>,
+    lines: LineMaker,
     lacks: bool,
 }
 
@@ -37,12 +37,12 @@ impl<R: Clock> Making for Scarce<'_, R> {
 
     type Out = Answer;
 
-    ghost makes = { λ maker. answer_of (arc_value maker.terms) };
+    ghost makes = { λ maker. answer_of (arc_value maker.lines) };
 
     ghost slots = { 8 };
 
     fn make(&mut self, alloc: Global, input: Line) -> Result<Answer, (Line, OutOfMemory)> {
-        self.terms.make(alloc, input)
+        self.lines.make(alloc, input)
     }
 
     ghost fits = { Prim.search rules };
@@ -56,7 +56,7 @@ impl<R: Clock> Shared for Scarce<'_, R> {
         }
         Ok(Scarce {
             rt: self.rt,
-            terms: self.terms.share()?,
+            lines: self.lines.share()?,
             lacks: false,
         })
     }
@@ -96,7 +96,7 @@ fn silent_sources<'a, R>(
     for number in 0..count {
         let maker = Scarce {
             rt,
-            terms: plain_terms(alloc)?,
+            lines: LineMaker::new(plain_terms(alloc)?),
             lacks: number == 0,
         };
         sources.push((Silent(asked), maker)).ok()?;

@@ -2,7 +2,7 @@
 ghost use Rattle.std.specs.Prelude.{◌≡◌, [], length, replicate, IfOk};
 
 use crate::{Answers, Collector, Refusal};
-use line_lane::LaneEnd;
+use lanes::LaneEnd;
 use set_line::Answer;
 use std::alloc::{AllocError, Global};
 

@@ -9,7 +9,7 @@ use crate::collecting::lane_taker::LaneTaker;
 use crate::threads::backoff::Backoff;
 use crate::threads::signals::Signals;
 use crate::{Collector, Gate, Refusal, Stage};
-use line_lane::Stored;
+use lanes::Stored;
 use std::sync::Wait;
 
 /// Takes the available results of all sources, source by source, and drops those of abandoned lanes. Returns

@@ -6,7 +6,7 @@ ghost use Rattle.set_run.specs.Collecting.{IsOver, TellsLane};
 
 use crate::{Collector, Refusal};
 use dealt_lanes::Gatherer;
-use line_lane::{LaneEnd, Made, Stored, Took};
+use lanes::{LaneEnd, Made, Stored, Took};
 
 /// The gatherer of a source's lanes, and their end once the collector has received this end.
 #[derive(Drop)]

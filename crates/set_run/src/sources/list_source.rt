@@ -1,7 +1,7 @@
 ghost use Rattle.std.specs.Prelude.{◌≡◌, Some, None};
 
 use crate::LineSource;
-use line_lane::SourceFault;
+use lanes::SourceFault;
 use set_line::Line;
 use std::snapshot::Snapshot;
 use std::vec;

@@ -9,7 +9,7 @@ pub use self::raw_line::MOST_READS;
 use self::raw_line::{RawLine, next_raw_line};
 use self::state::ReaderState;
 use crate::LineSource;
-use line_lane::SourceFault;
+use lanes::SourceFault;
 use set_line::{Line, cut_at_feeds};
 use std::alloc::Global;
 use std::io::Read;

@@ -1,7 +1,7 @@
 //! The thread of a source: it reads the items of the source and deals them over its lanes.
 ghost use Rattle.std.specs.Prelude.{◌≡◌, ◌++◌, ◌∷◌, [], None, Some, IfErr, OnOk, if◌then◌else◌};
 ghost use Rattle.dealt_lanes.specs.Dealt.{SameDealer, dealer_end, dealt};
-ghost use Rattle.line_lane.specs.Messages.{first_end};
+ghost use Rattle.lanes.specs.Messages.{first_end};
 ghost use Rattle.set_run.specs.Calls.{IsFedFrom};
 ghost use Rattle.set_run.specs.Given.{HandsBack, item_of};
 
@@ -9,7 +9,7 @@ use crate::threads::backoff::Backoff;
 use crate::threads::signals::Signals;
 use crate::{Gate, ItemSource, Stage};
 use dealt_lanes::Dealer;
-use line_lane::{OfferFault, SourceEnd, Stored};
+use lanes::{OfferFault, SourceEnd, Stored};
 use std::snapshot::Snapshot;
 use std::sync::Wait;
 use std::thread::Promise;

@@ -4,7 +4,7 @@ ghost use Rattle.std.specs.Prelude.{◌≡◌, ◌+◌, ◌*◌, ◌^◌, ◌<�
 ghost use Rattle.std.specs.List.{AllZip};
 ghost use Rattle.set_run.specs.Gathering.{Collects, Gathers};
 ghost use Rattle.set_run.specs.Lanes.{CanEnd, Ends};
-ghost use Rattle.line_lane.specs.Ends.{SameSetter};
+ghost use Rattle.lanes.specs.Ends.{SameSetter};
 ghost use Rattle.dealt_lanes.specs.Dealt.{dealer_lanes};
 ghost use Rattle.set_run.specs.declared.run_fault.RunFault.TheVariants.{TooManySources};
 
@@ -19,7 +19,7 @@ use crate::threads::worker::Worker;
 use crate::threads::worker_thread::{WorkedFrom, work};
 use crate::{ClosedLane, Collector, Gate, ItemSource, RunFault};
 use dealt_lanes::Shared;
-use line_lane::{Making, Setter, Stored};
+use lanes::{Making, Setter, Stored};
 use std::snapshot::Snapshot;
 use std::sync::Wait;
 use std::thread::{PromisedHandle, Scope, Threads};

@@ -1,13 +1,13 @@
 //! The setters of the lanes that one worker sets.
 ghost use Rattle.std.specs.Prelude.{◌≡◌, ◌<◌, ◌≤◌, ◌+◌, ◌^◌, ◌%◌, ◌++◌, ◌∷◌, [], get_or, length, vec_capacity, vec_len, IfSome, OnOk, MatchOption};
 ghost use Rattle.std.specs.List.{AllZip};
-ghost use Rattle.line_lane.specs.Ends.{SameSetter};
+ghost use Rattle.lanes.specs.Ends.{SameSetter};
 ghost use Rattle.set_run.specs.Workers.{CanTake, HasOneMore, HaveMore};
 
 use crate::threads::progress::Progress;
 use crate::threads::signals::Signals;
-use line_lane::{Making, Setter, Turn};
-use set_line::OutOfMemory;
+use lanes::{Making, Setter, Turn};
+use run_plan::OutOfMemory;
 use std::alloc::{AllocError, Global};
 use std::marker::Model;
 

@@ -1,13 +1,13 @@
 //! The thread of a worker: it sets the lines of its lanes.
 ghost use Rattle.std.specs.List.{AllZip};
-ghost use Rattle.line_lane.specs.Ends.{SameSetter};
+ghost use Rattle.lanes.specs.Ends.{SameSetter};
 
 use crate::threads::backoff::Backoff;
 use crate::threads::progress::Progress;
 use crate::threads::signals::Signals;
 use crate::threads::worker::{Worker, go_round};
 use crate::{Gate, Stage};
-use line_lane::{Making, Setter};
+use lanes::{Making, Setter};
 use std::snapshot::Snapshot;
 use std::sync::Wait;
 use std::thread::Promise;

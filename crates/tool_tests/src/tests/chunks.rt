@@ -1,7 +1,7 @@
 //! The chunks of a reader: when they are given, which lines they have, and how a reader ends.
 use super::doubles::{FREE, Ways, check, many_lines, reader};
 use line_chunks::{ChunkReader, ChunkText, RecordMaker};
-use line_lane::SourceFault;
+use lanes::SourceFault;
 use line_records::RecordFormat;
 use set_line::Version;
 use set_run::ItemSource;

@@ -3,7 +3,7 @@
 //! writers that fail or take no byte. The records are those of the worked examples in docs/TESTING.md.
 use super::doubles::check;
 use batch_support::{FailingSource, small_plan};
-use line_lane::SourceFault;
+use lanes::SourceFault;
 use run_texts::{FontSetting, ReportOptions, Summary, ToolFault, set_each, set_text, terms_of};
 use set_line::{Limit, Policy, Version};
 use set_run::NoGate;

@@ -1,6 +1,6 @@
 use Rattle.std.proofs.Common.{rules, ◌≡◌, ◌<◌, Some, length, refl, ◌∙◌}
 use Rattle.std.proofs.lemmas.List.Elements.{length_all_zip}
-use Rattle.line_lane.specs.Ends.{SameFeeder, fed}
+use Rattle.lanes.specs.Ends.{SameFeeder, fed}
 use Rattle.dealt_lanes.proofs.SameEnds.{closes, ends_at, ends_set, feeder_refl, feeder_trans}
 use Rattle.dealt_lanes.proofs.Zips.{map_kept, zip_change, zip_refl}
 use Rattle.dealt_lanes.proofs.feeding.close_all.Goals as goal

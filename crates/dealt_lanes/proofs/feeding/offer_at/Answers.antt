@@ -1,6 +1,6 @@
 use Rattle.std.proofs.Common.{rules, ◌<◌, length, refl}
 use Rattle.std.specs.Prelude.{None}
-use Rattle.line_lane.specs.Ends.{IsAsFed, IsRefused, SameFeeder, block_of, fed, feeder_end, open_lines}
+use Rattle.lanes.specs.Ends.{IsAsFed, IsRefused, SameFeeder, block_of, fed, feeder_end, open_lines}
 use Rattle.dealt_lanes.specs.Feeders.{IsReturned, each_fed}
 use Rattle.std.specs.Prelude.{◌≡◌, set}
 use Rattle.std.proofs.lemmas.Result.{IfErr-weaker, on_ok_weaker}

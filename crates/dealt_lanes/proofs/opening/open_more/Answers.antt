@@ -1,5 +1,5 @@
 use Rattle.std.proofs.Common.{ap, ◌∙◌}
-use Rattle.line_lane.specs.Turns.{fresh}
+use Rattle.lanes.specs.Turns.{fresh}
 use Rattle.dealt_lanes.specs.Lanes.{IsNew}
 use Rattle.dealt_lanes.proofs.Meeting.{three_append}
 use Rattle.dealt_lanes.proofs.opening.open_more.Goals as goal

@@ -1,5 +1,5 @@
 use Rattle.std.proofs.Common.{arith, ◌<◌, length, refl}
-use Rattle.line_lane.specs.Ends.{IsLane}
+use Rattle.lanes.specs.Ends.{IsLane}
 use Rattle.dealt_lanes.specs.Lanes.{IsNew}
 use Rattle.dealt_lanes.proofs.Meeting.{three_weaker}
 use Rattle.dealt_lanes.proofs.Opened.{new_feeders, new_makers, new_takers}

@@ -1,5 +1,5 @@
 use Rattle.std.proofs.Common.{rules, ◌≡◌, [], length, ap}
-use Rattle.line_lane.specs.Ends.{IsLane}
+use Rattle.lanes.specs.Ends.{IsLane}
 use Rattle.dealt_lanes.specs.Lanes.{IsMet}
 use Rattle.dealt_lanes.proofs.Meeting.{three_append, three_last, three_none}
 use Rattle.dealt_lanes.proofs.settling.settle_each.Goals as goal

@@ -1,6 +1,6 @@
 -- the lanes that are left are lanes, and once they have met, all have
 use Rattle.std.specs.Prelude.{length}
-use Rattle.line_lane.specs.Ends.{IsLane}
+use Rattle.lanes.specs.Ends.{IsLane}
 use Rattle.dealt_lanes.specs.Lanes.{AllThree, IsMet}
 use Rattle.dealt_lanes.proofs.settling.settle_each.Given as goal
 

@@ -1,5 +1,5 @@
 use Rattle.std.proofs.Common.{refl}
-use Rattle.line_lane.specs.Ends.{SameTaker}
+use Rattle.lanes.specs.Ends.{SameTaker}
 use Rattle.dealt_lanes.proofs.SameEnds.{taker_refl}
 use Rattle.dealt_lanes.proofs.Zips.{zip_set}
 use Rattle.dealt_lanes.proofs.taking.take_at.Goals as goal

@@ -1,7 +1,7 @@
 use Rattle.std.proofs.Common.{◌≡◌, refl, ap}
 use Rattle.std.proofs.lemmas.List.Elements.{All-weaker}
-use Rattle.line_lane.specs.Turns.{fresh}
-use Rattle.line_lane.specs.Ends.{state_of}
+use Rattle.lanes.specs.Turns.{fresh}
+use Rattle.lanes.specs.Ends.{state_of}
 use Rattle.set_run.proofs.lane.open_source.Goals as goal
 
 pub returns-clause-fresh : goal.returns-clause-fresh

@@ -3,7 +3,7 @@ ghost use Rattle.std.specs.Io.KnownBytes.{prepend_known};
 ghost use Rattle.set_run.specs.Reading.{TakesRawLine};
 
 use crate::sources::reader_source::buffer::Buffer;
-use line_lane::SourceFault;
+use lanes::SourceFault;
 use std::alloc::Global;
 use std::io::Read;
 

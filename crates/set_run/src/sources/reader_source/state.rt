@@ -1,4 +1,4 @@
-use line_lane::SourceFault;
+use lanes::SourceFault;
 
 /// How far a reader has been read.
 #[derive(Clone, Copy, Drop)]

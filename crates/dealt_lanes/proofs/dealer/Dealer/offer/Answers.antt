@@ -1,6 +1,6 @@
 use Rattle.std.proofs.Common.{rules, arith, ◌≡◌, refl, subst, sym, ap, length}
 use Rattle.std.proofs.lemmas.List.Elements.{length_all_zip}
-use Rattle.line_lane.specs.Ends.{SameFeeder}
+use Rattle.lanes.specs.Ends.{SameFeeder}
 use Rattle.dealt_lanes.specs.InTurn.{AreInTurn, in_turn}
 use Rattle.dealt_lanes.specs.Feeders.{HaveEnd, IsReturned}
 use Rattle.dealt_lanes.proofs.Endpoints.{fed_next, none_of}

@@ -1,6 +1,6 @@
 use Rattle.std.proofs.Common.{arith, ◌≡◌, length}
 use Rattle.std.proofs.lemmas.List.Elements.{length_all_zip}
-use Rattle.line_lane.specs.Ends.{SameTaker}
+use Rattle.lanes.specs.Ends.{SameTaker}
 use Rattle.dealt_lanes.specs.Takers.{IsDrained}
 use Rattle.dealt_lanes.proofs.Endpoints.{drained_gathered, drained_same, some_of}
 use Rattle.dealt_lanes.proofs.SameEnds.{taker_refl}

@@ -1,7 +1,7 @@
 use Rattle.std.proofs.Common.{rules, arith, ◌≡◌, Some, refl, ap, length}
 use Rattle.std.proofs.lemmas.List.Elements.{length_all_zip}
-use Rattle.line_lane.specs.Messages.{first_end}
-use Rattle.line_lane.specs.Ends.{SameTaker}
+use Rattle.lanes.specs.Messages.{first_end}
+use Rattle.lanes.specs.Ends.{SameTaker}
 use Rattle.dealt_lanes.proofs.Endpoints.{answer_next, end_next, nothing_next}
 use Rattle.dealt_lanes.proofs.SameEnds.{taker_refl}
 use Rattle.dealt_lanes.proofs.Zips.{zip_refl}

@@ -1,5 +1,5 @@
 -- the same end
-use Rattle.line_lane.specs.Ends.{SameFeeder}
+use Rattle.lanes.specs.Ends.{SameFeeder}
 use Rattle.lane_tests.proofs.tests.threads.feed_all.Given as goal
 
 abbrev pub invariant-loop : goal.invariant-loop

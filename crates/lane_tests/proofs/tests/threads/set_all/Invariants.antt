@@ -1,5 +1,5 @@
 -- the same end
-use Rattle.line_lane.specs.Ends.{SameSetter}
+use Rattle.lanes.specs.Ends.{SameSetter}
 use Rattle.lane_tests.proofs.tests.threads.set_all.Given as goal
 
 abbrev pub invariant-loop : goal.invariant-loop

@@ -1,5 +1,5 @@
 -- the same end
-use Rattle.line_lane.specs.Ends.{SameTaker}
+use Rattle.lanes.specs.Ends.{SameTaker}
 use Rattle.lane_tests.proofs.tests.threads.take_all.Given as goal
 
 abbrev pub invariant-loop : goal.invariant-loop

@@ -1,5 +1,5 @@
 use Rattle.std.proofs.Common.{rules, Some, refl, ap, ◌∙◌}
-use Rattle.line_lane.specs.Messages.{first_end}
+use Rattle.lanes.specs.Messages.{first_end}
 use Rattle.dealt_lanes.specs.Dealt.{dealer_end}
 use Rattle.set_run.proofs.SameEnds.{dealer_refl, dealer_trans, first_again}
 use Rattle.set_run.proofs.threads.source_thread.close.Goals as goal

@@ -1,6 +1,6 @@
 -- the dealer is of the same lanes, with the same items, and its end is the first one
 use Rattle.std.specs.Prelude.{◌≡◌, Some}
-use Rattle.line_lane.specs.Messages.{first_end}
+use Rattle.lanes.specs.Messages.{first_end}
 use Rattle.dealt_lanes.specs.Dealt.{SameDealer, dealer_end, dealt}
 use Rattle.set_run.proofs.threads.source_thread.close.Given as goal
 

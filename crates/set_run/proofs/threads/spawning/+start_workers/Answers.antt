@@ -2,7 +2,7 @@ use Rattle.std.proofs.Common.{arith, ap, ◌∙◌, ◌≡◌, ◌+◌, ◌≤�
 use Rattle.std.specs.List.{AllZip}
 use Rattle.std.proofs.lemmas.Result.{IfOk-weaker}
 use Rattle.set_run.specs.Gathering.{Collects}
-use Rattle.line_lane.specs.Ends.{SameSetter}
+use Rattle.lanes.specs.Ends.{SameSetter}
 use Rattle.set_run.proofs.SpawningLemmas.{after_below, both_ok, err_below, no_more, reserved}
 use Rattle.std.proofs.lemmas.List.Elements.{AllZip-push, length_all_zip}
 use Rattle.set_run.proofs.threads.spawning.+start_workers.Goals as goal

@@ -1,5 +1,5 @@
 use Rattle.std.proofs.Common.{rules}
-use Rattle.line_lane.specs.Ends.{SameSetter}
+use Rattle.lanes.specs.Ends.{SameSetter}
 use Rattle.dealt_lanes.proofs.Zips.{zip_refl, zip_change}
 use Rattle.set_run.proofs.SameEnds.{setter_refl, setter_trans}
 use Rattle.set_run.proofs.threads.worker.go_round.Goals as goal

@@ -1,6 +1,6 @@
 -- the setters are of the same lanes
 use Rattle.std.specs.List.{AllZip}
-use Rattle.line_lane.specs.Ends.{SameSetter}
+use Rattle.lanes.specs.Ends.{SameSetter}
 use Rattle.set_run.proofs.threads.worker.go_round.Given as goal
 
 abbrev pub invariant-loop-i : goal.invariant-loop-i

@@ -1,5 +1,5 @@
 -- the setter is of the same lane
-use Rattle.line_lane.specs.Ends.{SameSetter}
+use Rattle.lanes.specs.Ends.{SameSetter}
 use Rattle.set_run.proofs.threads.worker.take_turns.Given as goal
 
 abbrev pub invariant-loop-moves : goal.invariant-loop-moves

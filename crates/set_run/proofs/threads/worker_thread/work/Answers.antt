@@ -1,4 +1,4 @@
-use Rattle.line_lane.specs.Ends.{SameSetter}
+use Rattle.lanes.specs.Ends.{SameSetter}
 use Rattle.dealt_lanes.proofs.Zips.{zip_refl}
 use Rattle.set_run.proofs.Zips.{zip_trans}
 use Rattle.set_run.proofs.SameEnds.{setter_refl, setter_trans}

@@ -1,0 +1,6 @@
+pub mod FrontLemmas
+pub mod LaneLemmas
+pub mod MessageLemmas
+pub mod SettleLemmas
+pub mod TakeLemmas
+pub mod TurnLemmas
