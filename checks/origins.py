@@ -32,7 +32,7 @@ UNCAUSED = {
     ("run_texts/stream.rt", "write_buffer"): "write_some wrote less than the buffer, because a write failed",
     ("run_texts/writing.rt", "write_text"): "write_some wrote less than the text, because a write failed",
     ("set_run/sources/reader_source/raw_line.rt", "next_raw_line"): "1,048,576 reads didn't reach the end of a line",
-    ("set_run/threads/spawning.rt", "start_sources"): "`begin` lacked memory, or `start_source` a thread: a `None`",
+    ("batch/threads/spawning.rt", "start_sources"): "`begin` lacked memory, or `start_source` a thread: a `None`",
     ("tfm_requests/checking.rt", "bytes_once"): "standard input was read for another font",
     ("tfm_requests/checking.rt", "done_of"): "a font wasn't read, or the list of fonts wasn't read to its end",
     ("tfm_requests/font_list.rt", "check_named"): "reading the next name of the list lacked memory",

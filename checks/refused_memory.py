@@ -352,7 +352,7 @@ class Failures(Case):
             told = got.err in (MESSAGES["thread"], MESSAGES["memory"])
             self.assertEqual((5, True), (got.status, told), number)
 
-    # Mutant of `feed` in set_run: the thread of a source doesn't wait for the start of the batch.
+    # Mutant of `feed` in batch: the thread of a source doesn't wait for the start of the batch.
     @rows((kind, kind) for kind in ("set", "each", "stream"))
     def test_silent(self, kind):
         """All sources are a pipe without data, and the thread of a source, or the first of a worker, can't be started."""

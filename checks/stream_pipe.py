@@ -207,7 +207,7 @@ class Pipes(Case):
         pipe.close()
         self.same("end", (b"%d end complete 1\n" % place, 0), (read_line(child.stdout), child.wait(SECONDS)))
 
-    # Mutants of set_run: a worker stays with a lane as long as it has lines (`moves_per_visit`); the collecting thread
+    # Mutants of batch: a worker stays with a lane as long as it has lines (`moves_per_visit`); the collecting thread
     # stays with a source as long as it has results (`visit` in lane_taker.rt).
     @rows((f"number {busy} of 2: {options} {font}", busy, font, options.split(), text, pause, most)
           for font, options, text, pause, most in (
@@ -237,7 +237,7 @@ class Pipes(Case):
         child.kill()
         self.assertTrue(found, f"not in {size} bytes: {seen[-200:]!r}")
 
-    # Mutants of set_run: `drop_rest` in lane_taker.rt always returns true; `collect_all` returns after the last end
+    # Mutants of batch: `drop_rest` in lane_taker.rt always returns true; `collect_all` returns after the last end
     # without `about_to_wait`.
     @rows((f"{sources} sources, --workers {workers}", sources, workers) for sources in (1, 2) for workers in (1, 2))
     def test_abandoned_lane(self, sources, workers):
@@ -276,7 +276,7 @@ class Pipes(Case):
         ends = [b"%d end complete 3" % number for number in range(2, len(pipes) + 1)]
         self.same("ends", (ends, 5), (child.stdout.read().splitlines(), child.wait(SECONDS)))
 
-    # Mutants of set_run: the threads poll and never sleep, while a source is silent or the ring of results is full.
+    # Mutants of batch: the threads poll and never sleep, while a source is silent or the ring of results is full.
     def test_waiting_takes_no_processor_time(self):
         """For seconds without a line, or without a reader of its output, a stream takes hardly any processor time, and
         then goes on as before."""
@@ -349,7 +349,7 @@ class Pipes(Case):
         self.same("threads and exit status", (threads, 0), (seen, child.wait(SECONDS)))
 
     # Mutants of `deliver` in tfm_requests: the plan has 16 slots, or chunks of one line, or of eight; chunks of `set` have
-    # the lines of a read, or those of `stream` don't. Of `LaneCount` in set_run: the lanes of all sources are more than 64.
+    # the lines of a read, or those of `stream` don't. Of `LaneCount` in batch: the lanes of all sources are more than 64.
     @rows((f"{command} --workers {workers} --capacity {slots} --block {block}, {count} files: {reads} reads",
            command, workers, slots, block, reads, count) for command, workers, slots, block, reads, count in (
                ("set", 1, 40, None, 2, 1), ("stream", 1, 3, None, 4, 1), ("stream", 3, 2, None, 7, 1),
@@ -500,7 +500,7 @@ class Pipes(Case):
         self.assertEqual(count, 6)
         self.assertGreaterEqual(busy, 4)
 
-    # Mutant of `go_round` in set_run: a worker reads the stop flag once for all its lanes, not before the turns of each.
+    # Mutant of `go_round` in batch: a worker reads the stop flag once for all its lanes, not before the turns of each.
     def test_a_closed_pipe_stops_a_worker_of_64_lanes(self):
         names = [self.file("slow", b"aa\n" * 20000)] * 64
         child = self.start("--workers", "1", "--limit", "4000", path_of("endless_3"), *names, stdin=None,

@@ -47,17 +47,17 @@ class WakeUps(Case):
                 os.remove(f"{tests}/{name}")
         write(f"{tests}.rt", "".join(f"mod {name};\n" for name in MODULES))
         for shortest in ("1", "50"):
-            changed(f"{crates}/set_run/src/threads/backoff.rt", f"_SLEEP: u64 = {shortest};",
+            changed(f"{crates}/batch/src/threads/backoff.rt", f"_SLEEP: u64 = {shortest};",
                     "_SLEEP: u64 = 60_000;")
         for change in changes:
-            changed(f"{crates}/set_run/src/threads/signals.rt", *change)
+            changed(f"{crates}/batch/src/threads/signals.rt", *change)
         said = "".join(execute("rt", "try", "--test", "--seconds", str(seconds), cwd=f"{crates}/run_tests",
                                timeout=900)[1:])
         words = re.findall(r"^test tests::\w+::\w+ \.\.\. (\w+)", said, re.M)
         self.assertEqual(len(words), 3, said[-2000:])
         return words, "the program did not end within the time limit" in said
 
-    # Mutants of `start` and `stop` in set_run: the flag is set after the threads were woken.
+    # Mutants of `start` and `stop` in batch: the flag is set after the threads were woken.
     def test_each_thread_is_woken(self):
         """No thread sleeps for a minute, and however long a start or a stop takes, each thread that it wakes finds the
         flag."""

@@ -239,7 +239,7 @@ class Requests(Case):
         self.same("exit status", 0, child.returncode)
         self.assertLess(len(sizes), sum(sizes) / 32768 + 20)
 
-    # Mutant of set_run: a worker leaves a lane after each message, so that the other threads are woken each time.
+    # Mutant of batch: a worker leaves a lane after each message, so that the other threads are woken each time.
     def test_sleeps(self):
         """The threads of a stream sleep about twice for each half of a ring.
 

@@ -1,5 +1,5 @@
 //! A gate that counts.
-use set_run::{Gate, Stage};
+use batch::{Gate, Stage};
 use std::sync::atomic::{AtomicU64, Ordering};
 
 /// A gate that counts how often each thread of a batch enters it.

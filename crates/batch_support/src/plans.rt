@@ -1,5 +1,5 @@
 //! Layouts of batches.
-use set_run::{Plan, Workers};
+use batch::{Plan, Workers};
 use test_support::sizes;
 
 /// Returns a plan with this capacity, this block and this many workers.

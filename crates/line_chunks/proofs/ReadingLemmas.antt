@@ -4,8 +4,8 @@ use Rattle.std.specs.Prelude.{⊤}
 use Rattle.std.specs.Option.{option_map}
 use Rattle.std.specs.Io.KnownBytes.{Consumes, Keeps}
 use Rattle.set_line.specs.Lines.{HasNoFeed}
-use Rattle.set_run.specs.Calls.{HasReturned}
-use Rattle.set_run.specs.Sources.{HasNoMore}
+use Rattle.batch.specs.Calls.{HasReturned}
+use Rattle.batch.specs.Sources.{HasNoMore}
 use Rattle.line_chunks.specs.Chunks.{ChunkValue, cut}
 use Rattle.line_chunks.specs.Pending.{AreAll, EndsWithFeed}
 use Rattle.line_chunks.specs.Reading.{GivesChunk, Told, gives_told, told_by}

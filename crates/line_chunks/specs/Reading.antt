@@ -4,8 +4,8 @@ use Rattle.std.specs.Prelude.{◌≡◌, ◌≢◌, ◌<◌, ℕ, ◌+◌, ◌^�
 use Rattle.std.specs.Option.{option_map}
 use Rattle.std.specs.Io.KnownBytes.{IsAtEnd, prepend_known}
 use Rattle.lanes.specs.declared.fault.SourceFault.{SourceFault}
-use Rattle.set_run.specs.Calls.{HasReturned}
-use Rattle.set_run.specs.Sources.{gives_line}
+use Rattle.batch.specs.Calls.{HasReturned}
+use Rattle.batch.specs.Sources.{gives_known}
 use Rattle.line_chunks.specs.Chunks.{ChunkValue, cut}
 use Rattle.line_chunks.specs.Pending.{PendingValue, bytes_of}
 use Rattle.set_line.specs.Returns.{lines_in}
@@ -38,7 +38,7 @@ told_unread crlf bytes = told_by crlf Open bytes
 
 -- a call that returns the next line, or the end or the error, as it changes what is known
 abbrev pub gives_told : Told → Result (Option (List ℕ)) SourceFault → Told → Type 0
-gives_told before result after = gives_line (λ (t : Told). t.lines) (λ (t : Told). t.fault) before result after
+gives_told before result after = gives_known (λ (t : Told). t.lines) (λ (t : Told). t.fault) before result after
 
 -- a chunk of these lines, of which there is at least one, where the next line number is this one before and that
 -- one after the chunk; nothing is stated about the numbers of lines if they don't fit in 64 bits

@@ -6,8 +6,8 @@ ghost use Rattle.line_chunks.specs.declared.chunk_reader.ReaderState.TheVariants
 use crate::Chunk;
 use crate::cutting::count_feeds;
 use crate::input::{Filled, Input, Skipped};
+use batch::ItemSource;
 use lanes::SourceFault;
-use set_run::ItemSource;
 use std::alloc::Global;
 use std::io::Read;
 use std::snapshot::Snapshot;

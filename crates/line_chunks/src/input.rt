@@ -6,9 +6,9 @@ ghost use Rattle.line_chunks.specs.Skipping.{TakesLong};
 
 use crate::long_line::LongLine;
 use crate::pending::Pending;
+use batch::{MOST_READS, READ_SIZE};
 use lanes::SourceFault;
 use set_line::MOST_BYTES;
-use set_run::{MOST_READS, READ_SIZE};
 use std::alloc::Global;
 use std::io::{ErrorKind, Read};
 

@@ -15,11 +15,11 @@ use Rattle.line_chunks.specs.Chunks.{ChunkLine, ChunkValue, cut, lines_of_chunk,
 use Rattle.line_chunks.specs.ChunkText.{ChunkTextValue, MakerValue, RecordStyle, chunk_text}
 use Rattle.line_chunks.specs.Reading.{IsChunkOf, ReadsFrom, Told, gives_chunk, gives_told, told, told_unread}
 use Rattle.line_chunks.specs.declared.chunk_reader.ChunkReader.{ChunkReader}
-use Rattle.set_run.specs.Calls.{HasEnded, HasReturned, WasRead}
-use Rattle.set_run.specs.Closed.{AreClosedOf, HasNoOthers, IsClosedOf, IsCollectedOf, IsWhole}
-use Rattle.set_run.specs.Events.{Event, answers_in}
-use Rattle.set_run.specs.declared.run_end.ClosedLane.{ClosedLane}
-use Rattle.set_run.specs.declared.run_end.RunEnd.{RunEnd}
+use Rattle.batch.specs.Calls.{HasEnded, HasReturned, WasRead}
+use Rattle.batch.specs.Closed.{AreClosedOf, HasNoOthers, IsClosedOf, IsCollectedOf, IsWhole}
+use Rattle.batch.specs.Events.{Event, answers_in}
+use Rattle.batch.specs.declared.run_end.ClosedLane.{ClosedLane}
+use Rattle.batch.specs.declared.run_end.RunEnd.{RunEnd}
 use Rattle.set_run.proofs.ClosedLines.{closed_line}
 use Rattle.run_texts.specs.ChunkLanes.{AreClosedIn, AreReadBy, AreTextsOf, IsCollectedIn, fault_told, lines_told, maker_of, told_lane, told_readers}
 use Rattle.run_texts.proofs.ChunkLemmas.{texts_recorded}

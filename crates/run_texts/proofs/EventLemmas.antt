@@ -11,7 +11,7 @@ use Rattle.set_line.specs.Answer.{AnswerValue}
 use Rattle.lanes.specs.declared.ending.LaneEnd.{LaneEnd}
 use Rattle.formats.specs.Records.{version_of}
 use Rattle.line_chunks.specs.ChunkText.{ChunkTextValue, RecordStyle}
-use Rattle.set_run.specs.Events.{Event, LaneEvent, Answered, Ended, answers_among, lane_events, of_lane}
+use Rattle.batch.specs.Events.{Event, LaneEvent, Answered, Ended, answers_among, lane_events, of_lane}
 use Rattle.run_texts.specs.RunText.{end_text, lane_text, record_of, records_from, why_of}
 use Rattle.run_texts.specs.LaneText.{chunk_lines, event_lines, events_lines, records_of, refused_of}
 use Rattle.run_texts.specs.Streaming.{lane_lines, record_lines}

@@ -7,8 +7,8 @@ use Rattle.std.proofs.lemmas.List.{length-set, set-get_or}
 use Rattle.run_plan.specs.declared.version.Version.{Version}
 use Rattle.lanes.specs.declared.ending.LaneEnd.{LaneEnd}
 use Rattle.line_chunks.specs.ChunkText.{ChunkTextValue}
-use Rattle.set_run.specs.declared.collector.Refusal.{Refusal}
-use Rattle.set_run.specs.Events.{Event, LaneEvent, Answered, Ended, Gets, answers_among, of_lane}
+use Rattle.batch.specs.declared.collector.Refusal.{Refusal}
+use Rattle.batch.specs.Events.{Event, LaneEvent, Answered, Ended, Gets, answers_among, of_lane}
 use Rattle.run_texts.specs.RunText.{end_text, why_of}
 use Rattle.run_texts.specs.LaneText.{AreKept, LaneTextValue, chunk_lines, kept_of, records_of, refused_of}
 use Rattle.run_texts.proofs.EventLemmas.{among_ended, of_lane_more, of_lane_other, other_test, records_more, refused_more, text_more}

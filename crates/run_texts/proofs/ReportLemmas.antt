@@ -11,10 +11,10 @@ use Rattle.lanes.specs.declared.fault.SourceFault.{SourceFault}
 use Rattle.lanes.specs.declared.ending.LaneEnd.{LaneEnd}
 use Rattle.lanes.specs.declared.ending.LaneEnd.TheVariants.{Complete}
 use Rattle.line_chunks.specs.ChunkText.{ChunkTextValue, RecordStyle}
-use Rattle.set_run.specs.Events.{Event, answers_in}
+use Rattle.batch.specs.Events.{Event, answers_in}
 use Rattle.set_run.specs.Reports.{AreReported, IsTrueToSource}
 use Rattle.set_run.specs.declared.report.LaneReport.{LaneReport}
-use Rattle.set_run.specs.declared.run_end.ClosedLane.{ClosedLane}
+use Rattle.batch.specs.declared.run_end.ClosedLane.{ClosedLane}
 use Rattle.run_texts.specs.ChunkLanes.{AreClosedIn}
 use Rattle.run_texts.specs.LaneText.{records_of, refused_of}
 use Rattle.run_texts.specs.RunText.{refused_lines}

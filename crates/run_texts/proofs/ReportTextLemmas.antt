@@ -13,10 +13,10 @@ use Rattle.lanes.specs.declared.fault.SourceFault.{SourceFault}
 use Rattle.lanes.specs.declared.ending.LaneEnd.{LaneEnd}
 use Rattle.formats.specs.Records.{version_of}
 use Rattle.line_chunks.specs.ChunkText.{ChunkTextValue, RecordStyle}
-use Rattle.set_run.specs.Events.{Event, LaneEvent, answers_among, answers_in, lane_events, of_lane}
+use Rattle.batch.specs.Events.{Event, LaneEvent, answers_among, answers_in, lane_events, of_lane}
 use Rattle.set_run.specs.Reports.{AreReported}
 use Rattle.set_run.specs.declared.report.LaneReport.{LaneReport}
-use Rattle.set_run.specs.declared.run_end.ClosedLane.{ClosedLane}
+use Rattle.batch.specs.declared.run_end.ClosedLane.{ClosedLane}
 use Rattle.run_texts.specs.RunText.{head_text, lane_text, why_of}
 use Rattle.run_texts.specs.LaneText.{AreKept, LaneTextValue, events_lines, records_of}
 use Rattle.run_texts.specs.ChunkLanes.{AreClosedIn, AreRecordsOf, IsCollectedIn}

@@ -7,7 +7,7 @@ use Rattle.std.proofs.lemmas.Bool.Decides.{eqb_tells}
 use Rattle.run_plan.specs.declared.version.Version.{Version}
 use Rattle.lanes.specs.declared.ending.LaneEnd.{LaneEnd}
 use Rattle.line_chunks.specs.ChunkText.{ChunkTextValue}
-use Rattle.set_run.specs.Events.{Event, LaneEvent, Answered, Ended, answers_among, answers_in, of_lane}
+use Rattle.batch.specs.Events.{Event, LaneEvent, Answered, Ended, answers_among, answers_in, of_lane}
 use Rattle.run_texts.specs.Streaming.{SourceLine, merged_text, of_source}
 use Rattle.run_texts.specs.LaneText.{event_lines, events_lines, records_of, refused_of}
 use Rattle.run_texts.specs.StreamState.{AreCounts, AreLinesOf, IsCountOf}

@@ -3,7 +3,7 @@ use Rattle.std.proofs.Common.{◌≡◌, ◌≤◌, ℕ, ◌+◌, ◌-◌, Bool,
 use Rattle.std.specs.Io.KnownBytes.{Appends, Keeps}
 use Rattle.std.proofs.Math.Seq.{take-add}
 use Rattle.std.proofs.lemmas.List.{take_all}
-use Rattle.set_run.specs.Events.{Event, Gets}
+use Rattle.batch.specs.Events.{Event, Gets}
 use Rattle.run_texts.specs.StreamState.{MovesOut}
 
 -- the first bytes of the block were written

@@ -15,10 +15,10 @@ use Rattle.lanes.specs.declared.fault.SourceFault.{SourceFault}
 use Rattle.lanes.specs.declared.ending.LaneEnd.{LaneEnd}
 use Rattle.formats.specs.Records.{version_of}
 use Rattle.line_chunks.specs.ChunkText.{ChunkTextValue, RecordStyle}
-use Rattle.set_run.specs.Events.{Event, answers_in, lane_events, of_lane}
-use Rattle.set_run.specs.Closed.{HasNoOthers}
+use Rattle.batch.specs.Events.{Event, answers_in, lane_events, of_lane}
+use Rattle.batch.specs.Closed.{HasNoOthers}
 use Rattle.set_run.specs.declared.report.LaneReport.{LaneReport}
-use Rattle.set_run.specs.declared.run_end.ClosedLane.{ClosedLane}
+use Rattle.batch.specs.declared.run_end.ClosedLane.{ClosedLane}
 use Rattle.run_texts.specs.declared.fault.ToolFault.{ToolFault}
 use Rattle.run_texts.specs.ReportText.{summary_of_lanes, summary_of_run}
 use Rattle.set_run.specs.Reports.{AreReported}

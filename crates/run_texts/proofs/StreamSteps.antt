@@ -6,7 +6,7 @@ use Rattle.std.specs.List.{concat}
 use Rattle.std.specs.Io.KnownBytes.{Keeps}
 use Rattle.run_plan.specs.declared.version.Version.{Version}
 use Rattle.lanes.specs.declared.ending.LaneEnd.{LaneEnd}
-use Rattle.set_run.specs.Events.{Event, LaneEvent, Answered, Ended, answers_in}
+use Rattle.batch.specs.Events.{Event, LaneEvent, Answered, Ended, answers_in}
 use Rattle.formats.specs.Records.{version_of}
 use Rattle.line_chunks.specs.ChunkText.{ChunkTextValue, RecordStyle}
 use Rattle.run_texts.specs.RunText.{end_text, head_text, why_of}

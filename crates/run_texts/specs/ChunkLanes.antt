@@ -11,11 +11,11 @@ use Rattle.line_chunks.specs.Chunks.{ChunkValue, cut, lines_of_chunk, numbered_c
 use Rattle.line_chunks.specs.ChunkText.{ChunkTextValue, MakerValue, RecordStyle, chunk_text}
 use Rattle.line_chunks.specs.Reading.{ReadsFrom, Told, told, told_unread}
 use Rattle.line_chunks.specs.declared.chunk_reader.ChunkReader.{ChunkReader}
-use Rattle.set_run.specs.Closed.{AreClosedBy, AreCollectedBy}
-use Rattle.set_run.specs.Events.{Event}
+use Rattle.batch.specs.Closed.{AreClosedBy, AreCollectedBy}
+use Rattle.batch.specs.Events.{Event}
 use Rattle.set_run.specs.Reports.{AreReported, IsTrueToSource}
 use Rattle.set_run.specs.declared.report.LaneReport.{LaneReport}
-use Rattle.set_run.specs.declared.run_end.ClosedLane.{ClosedLane}
+use Rattle.batch.specs.declared.run_end.ClosedLane.{ClosedLane}
 use Rattle.run_texts.specs.RunText.{refused_lines}
 use Rattle.run_texts.specs.LaneText.{chunk_lines, records_of, refused_of}
 use Rattle.run_texts.specs.Streaming.{record_lines}

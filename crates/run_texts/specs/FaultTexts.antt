@@ -2,8 +2,8 @@
 -- This project's own; the text of a font error is defined in FaultWords of `font_texts`.
 use Rattle.std.specs.Prelude.{ℕ, List, ◌++◌, codes}
 use Rattle.font_texts.specs.FaultWords.{fault_words}
-use Rattle.set_run.specs.declared.run_fault.RunFault.{RunFault}
-use Rattle.set_run.specs.declared.run_fault.RunFault.TheVariants.{TooManySources, OutOfMemory as NoMemory, Thread}
+use Rattle.batch.specs.declared.run_fault.RunFault.{RunFault}
+use Rattle.batch.specs.declared.run_fault.RunFault.TheVariants.{TooManySources, OutOfMemory as NoMemory, Thread}
 use Rattle.run_texts.specs.declared.fault.ToolFault.{ToolFault}
 use Rattle.run_texts.specs.declared.fault.ToolFault.TheVariants.{Font, Run, OutOfMemory, Write}
 

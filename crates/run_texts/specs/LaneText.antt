@@ -5,7 +5,7 @@ use Rattle.std.specs.List.{concat}
 use Rattle.run_plan.specs.declared.version.Version.{Version}
 use Rattle.line_chunks.specs.Chunks.{lines_of_chunk}
 use Rattle.line_chunks.specs.ChunkText.{ChunkTextValue, record_in}
-use Rattle.set_run.specs.Events.{Event, LaneEvent, Answered, Ended, answers_among, of_lane}
+use Rattle.batch.specs.Events.{Event, LaneEvent, Answered, Ended, answers_among, of_lane}
 use Rattle.run_texts.specs.RunText.{end_text, why_of}
 
 -- the output of a lane so far, the number of its records, and the number of refused lines among them

@@ -3,8 +3,8 @@
 -- This project's own.
 use Rattle.tfm_tables.specs.declared.fault.FontFault.{FontFault}
 use Rattle.tfm_tables.specs.declared.fault.FontFault.TheVariants.{OutOfMemory as NoRoom}
-use Rattle.set_run.specs.declared.collector.Refusal.{Refusal}
-use Rattle.set_run.specs.declared.collector.Refusal.TheVariants.{OutOfMemory as NoMemory, Output}
+use Rattle.batch.specs.declared.collector.Refusal.{Refusal}
+use Rattle.batch.specs.declared.collector.Refusal.TheVariants.{OutOfMemory as NoMemory, Output}
 use Rattle.run_texts.specs.declared.fault.ToolFault.{ToolFault}
 use Rattle.run_texts.specs.declared.fault.ToolFault.TheVariants.{Font, OutOfMemory, Write}
 

@@ -10,7 +10,7 @@ use Rattle.lanes.specs.declared.fault.SourceFault.TheVariants.{Read, OutOfMemory
 use Rattle.lanes.specs.declared.ending.LaneEnd.{LaneEnd}
 use Rattle.lanes.specs.declared.ending.LaneEnd.TheVariants.{Complete, SourceFailed, GaveUp}
 use Rattle.set_run.specs.declared.report.LaneReport.{LaneReport}
-use Rattle.set_run.specs.declared.run_end.ClosedLane.{ClosedLane}
+use Rattle.batch.specs.declared.run_end.ClosedLane.{ClosedLane}
 use Rattle.run_texts.specs.RunText.{head_text, lane_text, refused_lines, why_of}
 use Rattle.run_texts.specs.declared.summary.Summary.{Summary}
 

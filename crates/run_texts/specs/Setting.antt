@@ -8,7 +8,7 @@ use Rattle.std.specs.Io.KnownBytes.{Appends}
 use Rattle.set_line.specs.Terms.{TermsValue}
 use Rattle.line_chunks.specs.ChunkText.{RecordStyle}
 use Rattle.lanes.specs.declared.fault.SourceFault.{SourceFault}
-use Rattle.set_run.specs.Closed.{AreBack}
+use Rattle.batch.specs.Closed.{AreBack}
 use Rattle.set_run.specs.Reports.{AreReported}
 use Rattle.set_run.specs.declared.report.LaneReport.{LaneReport}
 use Rattle.run_texts.specs.ReportText.{run_text, summary_of_run}

@@ -3,7 +3,7 @@
 use Rattle.std.specs.Prelude.{◌≡◌, ℕ, ◌+◌, List, [], ◌∷◌, ◌++◌, length, Option}
 use Rattle.std.specs.Io.KnownBytes.{Appends}
 use Rattle.run_plan.specs.declared.version.Version.{Version}
-use Rattle.set_run.specs.Events.{Event, answers_in, of_lane}
+use Rattle.batch.specs.Events.{Event, answers_in, of_lane}
 use Rattle.formats.specs.Records.{version_of}
 use Rattle.line_chunks.specs.ChunkText.{ChunkTextValue, RecordStyle}
 use Rattle.run_texts.specs.RunText.{head_text}

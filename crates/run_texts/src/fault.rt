@@ -3,8 +3,8 @@ ghost use Rattle.run_texts.specs.FaultTexts.{tool_fault_text};
 ghost use Rattle.run_texts.specs.Refusals.{fault_of, fault_of_font};
 ghost use Rattle.run_texts.specs.declared.fault.ToolFault.TheVariants.{OutOfMemory as NoMemory};
 
+use batch::{Refusal, RunFault};
 use font_texts::Numbered;
-use set_run::{Refusal, RunFault};
 use std::alloc::AllocError;
 use std::fmt;
 use tfm_tables::FontFault;

@@ -2,7 +2,7 @@
 ghost use Rattle.std.specs.Prelude.{◌≡◌, ◌+◌, ◌<◌, ◌^◌, ◌++◌, [], IfErr, OnErr, OnOk};
 ghost use Rattle.std.specs.Io.KnownBytes.{Appends};
 ghost use Rattle.std.specs.List.{concat};
-ghost use Rattle.set_run.specs.declared.collector.Refusal.TheVariants.{OutOfMemory as NoMemory};
+ghost use Rattle.batch.specs.declared.collector.Refusal.TheVariants.{OutOfMemory as NoMemory};
 ghost use Rattle.run_texts.specs.LaneText.{chunk_lines};
 ghost use Rattle.run_texts.specs.RunText.{end_text, why_of};
 
@@ -10,10 +10,10 @@ use crate::ToolFault;
 use crate::buffer::{Buffer, FULL, ROOM};
 use crate::lane_count::{Counted, LaneCount};
 use crate::writing::write_text;
-use line_chunks::ChunkText;
+use batch::Refusal;
 use lanes::LaneEnd;
+use line_chunks::ChunkText;
 use set_line::Version;
-use set_run::Refusal;
 use std::alloc::{AllocError, Global};
 use std::io::Write;
 use std::marker::Model;

@@ -1,8 +1,8 @@
+use batch::ItemOptions;
 use encodings::Encoding;
 use line_chunks::LineCounts;
 use line_records::RecordFormat;
 use run_plan::{Block, Plan};
-use set_run::ItemOptions;
 use std::cell::Cell;
 
 /// More lines than a chunk can have: the lines that one read completes, each of one byte at least.

@@ -1,16 +1,16 @@
 //! Appends lines of the output: its first line, the records of a chunk, and the end line of a lane.
 ghost use Rattle.std.specs.Prelude.{◌≡◌, ◌+◌, ◌<◌, ◌^◌, ◌++◌, IfErr, OnErr, OnOk};
 ghost use Rattle.std.specs.List.{concat};
-ghost use Rattle.set_run.specs.declared.collector.Refusal.TheVariants.{OutOfMemory as NoMemory};
+ghost use Rattle.batch.specs.declared.collector.Refusal.TheVariants.{OutOfMemory as NoMemory};
 ghost use Rattle.run_texts.specs.LaneText.{chunk_lines};
 ghost use Rattle.run_texts.specs.RunText.{end_text, head_text, json_end, why_of, words_end};
 
 use crate::lane_count::LaneCount;
+use batch::Refusal;
 use itoa::Buffer;
-use line_chunks::ChunkText;
 use lanes::{LaneEnd, SourceFault};
+use line_chunks::ChunkText;
 use set_line::Version;
-use set_run::Refusal;
 use std::alloc::AllocError;
 
 /// Returns the reason for the end of a lane, as the end line states it.

@@ -7,8 +7,9 @@ ghost use Rattle.run_texts.specs.ReportText.{is_unread, is_wanting, summary_of_e
 
 use crate::Summary;
 use crate::lane_count::Counted;
+use batch::ClosedLane;
 use lanes::{LaneEnd, SourceFault};
-use set_run::{ClosedLane, LaneReport};
+use set_run::LaneReport;
 
 /// Returns the number of refused lines of all lanes, or 2^64 - 1 if it is larger.
 pub(crate) fn all_refused<C: Counted>(lanes: &[C]) -> u64

@@ -1,6 +1,6 @@
 //! Collects the output of a batch in a buffer, and writes it as the results arrive.
 ghost use Rattle.std.specs.Prelude.{◌≡◌, ◌<◌, [], length, is_ok, IfOk, OnOk};
-ghost use Rattle.set_run.specs.Events.{Answered, Ended, Gets, Keeps as KeepsGiven};
+ghost use Rattle.batch.specs.Events.{Answered, Ended, Gets, Keeps as KeepsGiven};
 ghost use Rattle.run_texts.specs.RunText.{head_text};
 ghost use Rattle.run_texts.specs.StreamState.{AreCounts, IsStreamOf, MovesOut, StreamStart};
 
@@ -8,10 +8,10 @@ use crate::buffer::{FULL, ROOM};
 use crate::lane_count::LaneCount;
 use crate::record::push_head;
 use crate::writing::write_some;
-use line_chunks::{ChunkText, LineCounts};
+use batch::Refusal;
 use lanes::LaneEnd;
+use line_chunks::{ChunkText, LineCounts};
 use set_line::Version;
-use set_run::Refusal;
 use std::alloc::{AllocError, Global};
 use std::io::Write;
 

@@ -8,11 +8,11 @@ use Rattle.set_line.specs.Answer.{AnswerValue, answer_of, answers_of}
 use Rattle.lanes.specs.declared.fault.SourceFault.{SourceFault}
 use Rattle.lanes.specs.declared.ending.SourceEnd.{SourceEnd}
 use Rattle.lanes.specs.declared.ending.SourceEnd.TheVariants.{Complete as SourceComplete, Failed}
-use Rattle.set_run.specs.Calls.{HasEnded, HasReturned}
-use Rattle.set_run.specs.Sources.{GivesNext, HasGiven, HasNoMore, gives_line}
-use Rattle.set_run.specs.Closed.{IsClosedOf}
+use Rattle.batch.specs.Calls.{HasEnded, HasReturned}
+use Rattle.batch.specs.Sources.{GivesNext, HasGiven, HasNoMore, gives_known}
+use Rattle.batch.specs.Closed.{IsClosedOf}
 use Rattle.set_run.specs.Reports.{AreAllAnswers, AreFirstAnswers, IsTrueToSource}
-use Rattle.set_run.specs.declared.run_end.ClosedLane.{ClosedLane}
+use Rattle.batch.specs.declared.run_end.ClosedLane.{ClosedLane}
 
 -- ---- lines to come
 
@@ -72,7 +72,7 @@ left_at_end least lines (Some all) (Some last) after (given, rest, long, is, som
 -- ---- calls of a source of lines
 
 module _ {S : Type 0} (to_come : S → Option (List (List ℕ))) (failed : S → Option SourceFault) where
-  returned_lines : (before : S) (lines : List (List ℕ)) (after : S) → HasReturned (gives_line to_come failed) before lines after
+  returned_lines : (before : S) (lines : List (List ℕ)) (after : S) → HasReturned (gives_known to_come failed) before lines after
       → Gave (to_come before) lines (to_come after)
   returned_lines before [] after same = subst (λ s. Gave (to_come before) [] (to_come s)) (sym same) (gave_none (to_come before))
   returned_lines before (line ∷ lines) after (now, one, rest) =
@@ -80,7 +80,7 @@ module _ {S : Type 0} (to_come : S → Option (List (List ℕ))) (failed : S →
 
   -- lines that are left, unless it failed
   left_of : (least : ℕ) (before now after : S) (last : Option SourceEnd) → HasGiven least (to_come before) (to_come now)
-      → HasEnded (gives_line to_come failed) now last after → failed after ≡ None → HasGiven least (to_come before) (to_come after)
+      → HasEnded (gives_known to_come failed) now last after → failed after ≡ None → HasGiven least (to_come before) (to_come after)
   left_of least before now after None given ended none = subst (λ s. HasGiven least (to_come before) (to_come s)) (sym ended) given
   left_of least before now after (Some SourceComplete) given ended none = left_at_end least [] (to_come before) (to_come now) (to_come after) given ended.2
   left_of least before now after (Some (Failed fault)) given ended none =
@@ -88,7 +88,7 @@ module _ {S : Type 0} (to_come : S → Option (List (List ℕ))) (failed : S →
 
   -- the closed lane of a source of lines
   pub closed_line : (terms : TermsValue) (source : S) (answers : List AnswerValue) (lane : ClosedLane S)
-      → IsClosedOf (gives_line to_come failed) (answer_of terms) source answers lane → IsTrueToSource to_come failed terms source answers lane
+      → IsClosedOf (gives_known to_come failed) (answer_of terms) source answers lane → IsTrueToSource to_come failed terms source answers lane
   closed_line terms source answers lane made =
       let (now, returned, ended) = made.read in
       let all = made.items ++ made.more in
@@ -97,14 +97,14 @@ module _ {S : Type 0} (to_come : S → Option (List (List ℕ))) (failed : S →
         gave_answers terms answers made.items made.more (to_come source) (to_come now) made.made gave,
         (λ is.
             let whole = made.complete is in
-            let last : HasEnded (gives_line to_come failed) now (Some SourceComplete) lane.source =
-            subst (λ e. HasEnded (gives_line to_come failed) now e lane.source) whole.1 ended in
+            let last : HasEnded (gives_known to_come failed) now (Some SourceComplete) lane.source =
+            subst (λ e. HasEnded (gives_known to_come failed) now e lane.source) whole.1 ended in
             let only : all ≡ made.items = ap (λ l. made.items ++ l) whole.0 ∙ append-nil made.items in (
               last.1,
               gave_all terms answers made.items (to_come source) (to_come now) (to_come lane.source) made.made
                   (subst (λ l. Gave (to_come source) l (to_come now)) only gave) last.2,
             )),
-        (λ fault is. (subst (λ e. HasEnded (gives_line to_come failed) now e lane.source) (made.failed fault is).1 ended).0),
+        (λ fault is. (subst (λ e. HasEnded (gives_known to_come failed) now e lane.source) (made.failed fault is).1 ended).0),
         (λ none. left_of (length answers) source now lane.source made.last
             (gave_left (length answers) made.items made.more (to_come source) (to_come now) long gave) ended none),
       )

@@ -10,11 +10,11 @@ use Rattle.set_line.specs.Answer.{AnswerValue, answer_of, answers_of}
 use Rattle.lanes.specs.declared.fault.SourceFault.{SourceFault}
 use Rattle.lanes.specs.declared.ending.LaneEnd.{LaneEnd}
 use Rattle.lanes.specs.declared.ending.LaneEnd.TheVariants.{Complete}
-use Rattle.set_run.specs.Events.{Event, answers_in}
-use Rattle.set_run.specs.Closed.{AreClosedOf, HasNoOthers}
+use Rattle.batch.specs.Events.{Event, answers_in}
+use Rattle.batch.specs.Closed.{AreClosedOf, HasNoOthers}
 use Rattle.set_run.specs.Reports.{AreAllAnswers, AreAnswered, AreReported, AreReportsOf, IsTrueToSource}
-use Rattle.set_run.specs.Sources.{gives_line}
-use Rattle.set_run.specs.declared.run_end.ClosedLane.{ClosedLane}
+use Rattle.batch.specs.Sources.{gives_known}
+use Rattle.batch.specs.declared.run_end.ClosedLane.{ClosedLane}
 use Rattle.set_run.specs.declared.report.LaneReport.{LaneReport}
 use Rattle.set_run.proofs.ClosedLines.{closed_line}
 
@@ -67,7 +67,7 @@ module _ {S : Type 0} where
   -- what holds of the lanes holds of their reports
   pub reported_all : (to_come : S → Option (List (List ℕ))) (failed : S → Option SourceFault) (events : List (Event AnswerValue)) (first : ℕ)
       (sources : List (S × Arc TermsValue Global)) (lanes : List (ClosedLane S)) (lists : List (List AnswerValue)) (reports : List (LaneReport S))
-      → AreClosedOf (gives_line to_come failed) made events first sources lanes → AreReportsOf lanes lists reports
+      → AreClosedOf (gives_known to_come failed) made events first sources lanes → AreReportsOf lanes lists reports
       → ((i : ℕ) → i < length lists → get_or lists i [] ≡ answers_in (first + i) events) → AreReported to_come failed sources reports
   reported_all to_come failed events first [] [] [] [] are of_lanes have = tt
   reported_all to_come failed events first [] [] [] (r ∷ reports) are of_lanes have = elim of_lanes [ ]
@@ -104,7 +104,7 @@ none_kept lanes lists is = λ lane below. ap (λ l. get_or l lane []) is ∙ all
 
 -- a lane for each source
 pub closed_length : {S : Type 0} (to_come : S → Option (List (List ℕ))) (failed : S → Option SourceFault) (events : List (Event AnswerValue)) (first : ℕ)
-    (sources : List (S × Arc TermsValue Global)) (lanes : List (ClosedLane S)) → AreClosedOf (gives_line to_come failed) made events first sources lanes
+    (sources : List (S × Arc TermsValue Global)) (lanes : List (ClosedLane S)) → AreClosedOf (gives_known to_come failed) made events first sources lanes
     → length lanes ≡ length sources
 closed_length to_come failed events first [] [] are = refl
 closed_length to_come failed events first [] (c ∷ lanes) are = elim are [ ]
@@ -118,7 +118,7 @@ module _ {S : Type 0} where
       (lanes : List (ClosedLane S)) (lists : List (List AnswerValue)) (reports : List (LaneReport S))
       → (events : List (Event AnswerValue))
       × ((lane : ℕ) → lane < length lists → get_or lists lane [] ≡ answers_in lane events)
-      × AreClosedOf (gives_line to_come failed) made events 0 sources lanes × HasNoOthers events (length sources)
+      × AreClosedOf (gives_known to_come failed) made events 0 sources lanes × HasNoOthers events (length sources)
       → AreReportsOf lanes lists reports → AreReported to_come failed sources reports
   reported_kept to_come failed sources lanes lists reports (events, kept, are, others) of_lanes =
       reported_all to_come failed events 0 sources lanes lists reports are of_lanes (

@@ -1,13 +1,5 @@
 pub mod FeedLemmas
-pub mod GivenLemmas
 pub mod ReadingLemmas
-pub mod Zips
-pub mod SameEnds
-pub mod WorkerLemmas
-pub mod EventLemmas
-pub mod TakerLemmas
-pub mod LaneLemmas
+pub mod KeepLemmas
 pub mod ClosedLines
-pub mod SpawningLemmas
 pub mod FinishedLemmas
-pub mod HaveMore

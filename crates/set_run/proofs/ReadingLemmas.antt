@@ -13,7 +13,7 @@ use Rattle.std.proofs.lemmas.List.Sums.{fails_before_first}
 use Rattle.set_line.specs.Lines.{lines_of, HasNoFeed, IsCutAtFeed}
 use Rattle.set_run.specs.declared.sources.reader_source.state.ReaderState.{ReaderState}
 use Rattle.set_run.specs.declared.sources.reader_source.state.ReaderState.TheVariants.{Open, AtEnd, Failed}
-use Rattle.set_run.specs.Sources.{GivesNext, Reads}
+use Rattle.batch.specs.Sources.{GivesNext, Reads}
 use Rattle.set_run.specs.Reading.{MovesLine, fault_of, lines_to_come}
 
 -- ---- the bytes in the buffer
@@ -153,9 +153,9 @@ first_line (Some all) (Some left) line law none taken =
     subst (λ lines. GivesNext line (Some lines) (Some (lines_of left))) (sym cut) (refl, refl)
 
 -- an answer with such a line is right
-pub gives_line : (state : ReaderState) (before after : Option (List ℕ)) (line : List ℕ) → ((part rest : List ℕ) → IsCutAtFeed part rest)
+pub gives_known : (state : ReaderState) (before after : Option (List ℕ)) (line : List ℕ) → ((part rest : List ℕ) → IsCutAtFeed part rest)
     → state ≡ Open → HasNoFeed line → Consumes before after (line ++ 10 ∷ [])
     → Reads (lines_to_come state before) (fault_of state) (Ok (Some line)) (lines_to_come state after) (fault_of state)
-gives_line Open before after line law is none taken = (refl, refl, first_line before after line law none taken)
-gives_line AtEnd before after line law is none taken = absurd (cc)
-gives_line (Failed fault) before after line law is none taken = absurd (cc)
+gives_known Open before after line law is none taken = (refl, refl, first_line before after line law none taken)
+gives_known AtEnd before after line law is none taken = absurd (cc)
+gives_known (Failed fault) before after line law is none taken = absurd (cc)

@@ -1,11 +1,2 @@
-pub mod Sources
-pub mod Calls
-pub mod Events
 pub mod Reading
-pub mod Given
-pub mod Workers
-pub mod Collecting
-pub mod Closed
 pub mod Reports
-pub mod Lanes
-pub mod Gathering

@@ -9,9 +9,9 @@ use Rattle.set_line.specs.Terms.{TermsValue}
 use Rattle.set_line.specs.Answer.{AnswerValue, answers_of}
 use Rattle.lanes.specs.declared.fault.SourceFault.{SourceFault}
 use Rattle.lanes.specs.declared.ending.LaneEnd.TheVariants.{Complete, SourceFailed}
-use Rattle.set_run.specs.Sources.{HasGiven}
+use Rattle.batch.specs.Sources.{HasGiven}
 use Rattle.set_run.specs.declared.report.LaneReport.{LaneReport}
-use Rattle.set_run.specs.declared.run_end.ClosedLane.{ClosedLane}
+use Rattle.batch.specs.declared.run_end.ClosedLane.{ClosedLane}
 
 -- these are the results of the first of the lines that were to come; if those weren't known, of some list of
 -- lines

@@ -1,32 +1,38 @@
 //! A batch that returns a report of all results.
 ghost use Rattle.std.specs.Prelude.{◌≡◌, ◌<◌, ◌≤◌, ◌⊎◌, [], All, Err, IfOk, IfErr, IsSome, MatchResult, map, vec_len};
-ghost use Rattle.set_run.specs.declared.run_fault.RunFault.TheVariants.{TooManySources, OutOfMemory as NoMemory, Thread};
+ghost use Rattle.batch.specs.declared.run_fault.RunFault.TheVariants.{TooManySources, OutOfMemory as NoMemory, Thread};
 ghost use Rattle.lanes.specs.declared.ending.LaneEnd.TheVariants.{Complete};
-ghost use Rattle.set_run.specs.Closed.{AreBack};
+ghost use Rattle.batch.specs.Closed.{AreBack};
 ghost use Rattle.set_run.specs.Reports.{AreAnswered, AreReported, AreReportsOf};
 
-use crate::collecting::answer_lists::AnswerLists;
-use crate::{
-    Answers, ClosedLane, Gate, ItemOptions, LaneReport, LineSource, MOST_SOURCES, Plan, Report,
-    RunFault, run_items,
-};
+use crate::answer_lists::AnswerLists;
+use crate::sources::LineItems;
+use crate::{Answers, LaneReport, LineSource, Report};
+use batch::{ClosedLane, Gate, ItemOptions, MOST_SOURCES, Plan, RunFault, run_items};
 use line_lane::LineMaker;
 use set_line::Terms;
 use std::alloc::{AllocError, Global};
 use std::sync::{Arc, Wait};
 use std::thread::Threads;
 
-/// Returns the sources, each with the maker of its answers. The error means that an allocation failed.
-fn with_makers<S: Drop>(
+/// Returns a source of lines as a source of items, with the maker of its answers.
+fn item_source<S: Drop>(pair: (S, Arc<Terms>)) -> (LineItems<S>, LineMaker)
+    ensures { result ≡ pair }
+{
+    let (source, terms) = pair;
+    (LineItems::new(source), LineMaker::new(terms))
+}
+
+/// Returns each source as a source of items. The error means that an allocation failed.
+fn item_sources<S: Drop>(
     alloc: Global,
     sources: Vec<(S, Arc<Terms>)>,
-) -> Result<Vec<(S, LineMaker)>, AllocError>
+) -> Result<Vec<(LineItems<S>, LineMaker)>, AllocError>
     ensures { IfOk result (λ made. made.items ≡ sources.items) }
 {
     let mut made = Vec::with_capacity(alloc, sources.len())?;
     for pair in sources {
-        let (source, terms) = pair;
-        made.push((source, LineMaker::new(terms)))?;
+        made.push(item_source(pair))?;
     }
     Ok(made)
 }
@@ -35,7 +41,7 @@ fn with_makers<S: Drop>(
 /// allocation failed.
 fn reports_of<S: Drop>(
     alloc: Global,
-    lanes: Vec<ClosedLane<S>>,
+    lanes: Vec<ClosedLane<LineItems<S>>>,
     lists: Vec<Answers>,
 ) -> Result<Vec<LaneReport<S>>, AllocError>
     requires ended { All (λ lane. IsSome lane.end) lanes.items }
@@ -50,6 +56,7 @@ fn reports_of<S: Drop>(
         unreachable!()
     };
     let ClosedLane { source, end } = lane;
+    let source = source.into_source();
     let Some(end) = end else { unreachable!() };
     let mut reports = reports_of(alloc, lanes, lists)?;
     reports.push(LaneReport {
@@ -93,7 +100,7 @@ pub fn run<R: Threads + Wait + Sync, S: LineSource + Send + Drop, G: Gate + Sync
         return Err(RunFault::TooManySources);
     }
     let lists = AnswerLists::new(alloc, sources.len())?;
-    let made = with_makers(alloc, sources)?;
+    let made = item_sources(alloc, sources)?;
     let lanes = 1;
     let options = ItemOptions { plan, gate, lanes };
     let (lists, ended) = run_items(rt, alloc, made, options, lists);

@@ -1,10 +1,12 @@
-//! Sources: of lines, and of other items.
-ghost use Rattle.std.specs.Prelude.{◌≡◌, ℕ, List, Option, Result};
+//! Sources of lines.
+ghost use Rattle.std.specs.Prelude.{◌≡◌, ℕ, List, Option};
 ghost use Rattle.lanes.specs.declared.fault.SourceFault.{SourceFault as Fault};
-ghost use Rattle.set_run.specs.Sources.{Reads};
+ghost use Rattle.batch.specs.Sources.{Reads};
 
+use batch::ItemSource;
 use lanes::SourceFault;
 use set_line::Line;
+use std::marker::Model;
 
 pub(crate) mod list_source;
 pub(crate) mod reader_source;
@@ -28,41 +30,45 @@ pub trait LineSource {
         ensures origin { origin self.new ≡ origin self.old };
 }
 
-/// A source of items: of lines, or of other items of which a [`Making`](lanes::Making) makes results.
-/// Each [`LineSource`] is a source of lines, without an `impl` of its own.
-///
-/// For the proof: `next_gives` describes a call of `next_item`: it relates the source before the call to the
-/// return value and the source after the call. `origin` is what the source was made from, and never changes.
-pub trait ItemSource<I> {
-    ghost next_gives: { Self → Result (Option I) Fault → Self → Type 0 };
+/// A source of lines as a source of items. Contracts see it as the source.
+#[derive(Drop)]
+pub(crate) struct LineItems<S> {
+    source: S,
+}
 
-    ghost Origin: { Type 0 };
+impl<S> Model for LineItems<S> {
+    ghost Value = { S };
 
-    ghost origin: { Self → Origin };
+    ghost coded = { S.code };
 
-    /// Returns the next item, or `None` if no item is left; or an error.
-    fn next_item(&mut self) -> Result<Option<I>, SourceFault>
-        ensures gives { next_gives self.old result self.new }
-        ensures origin { origin self.new ≡ origin self.old };
+    ghost view = { λ items. items.source };
+}
 
-    /// Returns whether `next_item` would return without waiting. The return value only decides when the
-    /// workers are woken: if it is false, and items were fed since the last wake-up, the workers are woken
-    /// before `next_item` is called. The default is true.
-    fn is_ready(&self) -> bool {
-        true
+impl<S> LineItems<S> {
+    pub fn new(source: S) -> Self
+        ensures { result ≡ source }
+    {
+        LineItems { source }
+    }
+
+    pub fn into_source(self) -> S
+        ensures { result ≡ self }
+    {
+        let LineItems { source } = self;
+        source
     }
 }
 
-impl<S: LineSource> ItemSource<Line> for S {
-    ghost use Rattle.set_run.specs.Sources.{gives_line};
+impl<S: LineSource> ItemSource<Line> for LineItems<S> {
+    ghost use Rattle.batch.specs.Sources.{gives_known};
 
-    ghost next_gives = { gives_line S.to_come S.failed };
+    ghost next_gives = { gives_known S.to_come S.failed };
 
     ghost Origin = { S.Origin };
 
     ghost origin = { S.origin };
 
     fn next_item(&mut self) -> Result<Option<Line>, SourceFault> {
-        self.next_line()
+        self.source.next_line()
     }
 }

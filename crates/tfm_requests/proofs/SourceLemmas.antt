@@ -20,8 +20,8 @@ use Rattle.run_texts.specs.Setting.{IsWritten}
 use Rattle.run_texts.specs.declared.summary.Summary.{Summary}
 use Rattle.run_texts.specs.declared.fault.ToolFault.{ToolFault}
 use Rattle.run_texts.specs.declared.fault.ToolFault.TheVariants.{Font, Run, OutOfMemory, Write}
-use Rattle.set_run.specs.declared.run_fault.RunFault.{RunFault}
-use Rattle.set_run.specs.declared.run_fault.RunFault.TheVariants.{OutOfMemory as NoMemory, Thread}
+use Rattle.batch.specs.declared.run_fault.RunFault.{RunFault}
+use Rattle.batch.specs.declared.run_fault.RunFault.TheVariants.{OutOfMemory as NoMemory, Thread}
 use Rattle.tfm_tables.specs.declared.fault.FontFault.{FontFault}
 use Rattle.tfm_requests.specs.Status.{tool_status}
 use Rattle.tfm_requests.specs.Jobs.{told_with_terms}

@@ -3,7 +3,7 @@
 use Rattle.std.specs.Prelude.{ℕ, Bool, true, false}
 use Rattle.run_texts.specs.declared.fault.ToolFault.{ToolFault}
 use Rattle.run_texts.specs.declared.fault.ToolFault.TheVariants.{Font, Run, OutOfMemory, Write}
-use Rattle.set_run.specs.declared.run_fault.RunFault.TheVariants.{TooManySources, OutOfMemory as RunOutOfMemory, Thread}
+use Rattle.batch.specs.declared.run_fault.RunFault.TheVariants.{TooManySources, OutOfMemory as RunOutOfMemory, Thread}
 use Rattle.tfm_requests.specs.declared.failures.done.Done.{Done}
 use Rattle.tfm_requests.specs.declared.failures.done.Done.TheVariants.{AllSet, SomeRefused, FontNotRead, FileNotEnded, LaneAbandoned}
 use Rattle.tfm_requests.specs.declared.failures.errors.RequestError.TheVariants.{OutOfMemory as RequestMemory}

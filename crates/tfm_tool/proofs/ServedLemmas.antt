@@ -2,7 +2,7 @@
 use Rattle.std.proofs.Common.{arith, ◌≡◌, ◌⊎◌, inl, inr, ◌≤◌, ℕ, true, [], ◌∷◌, Contains, lit<, ap, refl, subst, sym, ◌∙◌}
 use Rattle.std.specs.Prelude.{◌==◌, ◌||◌, IfErr, IfOk, Result, Ok, Err}
 use Rattle.run_texts.specs.declared.fault.ToolFault.TheVariants.{Font, Run, OutOfMemory, Write}
-use Rattle.set_run.specs.declared.run_fault.RunFault.TheVariants.{TooManySources, OutOfMemory as RunOutOfMemory, Thread}
+use Rattle.batch.specs.declared.run_fault.RunFault.TheVariants.{TooManySources, OutOfMemory as RunOutOfMemory, Thread}
 use Rattle.tfm_requests.specs.Status.{done_status, status_of}
 use Rattle.tfm_requests.specs.declared.failures.done.Done.{Done}
 use Rattle.tfm_requests.specs.declared.failures.done.Done.TheVariants.{AllSet, SomeRefused, FontNotRead, FileNotEnded, LaneAbandoned}

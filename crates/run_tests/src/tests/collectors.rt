@@ -1,6 +1,6 @@
 //! Collectors that refuse: the batch stops. That it returns the refusal, and what the collector was given, is proved.
 use super::slow::{Before, Manner, Shared, WILLING, run_slowly};
-use set_run::Refusal;
+use batch::Refusal;
 use std::test::Fail;
 
 /// The number of results and ends of three sources of two lines.

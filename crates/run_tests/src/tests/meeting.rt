@@ -1,10 +1,11 @@
 //! The threads of a batch run concurrently, and each line goes through the rings of its lane: a start barrier
 //! holds threads until others came by, and sources report when they are asked.
 use super::runs::{says, text_of_ab};
+use batch::{Gate, Stage};
 use batch_support::{CountingGate, plan, with_terms};
 use lanes::SourceFault;
 use set_line::{Line, Terms};
-use set_run::{Gate, LineSource, Stage, run};
+use set_run::{LineSource, run};
 use std::alloc::Global;
 use std::sync::Arc;
 use std::sync::atomic::{AtomicBool, AtomicU64, Ordering};

@@ -4,9 +4,10 @@
 //! first results of this lane, and all results of the other lanes. It is proved that they are those of the first
 //! lines of each source. The text that is printed states which case it was.
 use super::runs::three_sources;
+use batch::{NoGate, RunFault};
 use batch_support::plan;
 use lanes::LaneEnd;
-use set_run::{NoGate, RunFault, run};
+use set_run::run;
 use std::test::Fail;
 
 #[test]

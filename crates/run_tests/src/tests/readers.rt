@@ -1,8 +1,9 @@
 //! Lines of readers, alone and in a batch.
+use batch::NoGate;
 use batch_support::plan;
 use lanes::{LaneEnd, SourceFault};
 use set_line::{Line, lines};
-use set_run::{LineSource, NoGate, ReaderSource, run};
+use set_run::{LineSource, ReaderSource, run};
 use std::process::Abort;
 use std::sync::Wait;
 use std::test::Fail;

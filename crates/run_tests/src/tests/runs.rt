@@ -1,8 +1,9 @@
 //! Batches, and their reports as text: the records of each source, and a line for its end.
+use batch::{NoGate, RunFault};
 use batch_support::{CountingGate, FailingSource, plan, source_of, with_terms};
 use lanes::{LaneEnd, SourceFault};
 use set_line::{Line, Policy, Terms, Version, record};
-use set_run::{LaneReport, LineSource, ListSource, NoGate, ReaderSource, Report, RunFault, run};
+use set_run::{LaneReport, LineSource, ListSource, ReaderSource, Report, run};
 use std::alloc::Global;
 use std::process::Abort;
 use std::sync::{Arc, Wait};

@@ -1,13 +1,13 @@
 //! Batches of sources and collectors that take their time, wait for each other, or refuse.
+use batch::{Collector, Gate, ItemOptions, ItemSource, Refusal, RunEnd, Stage, run_items};
 use batch_support::plan;
 use lanes::{LaneEnd, SourceFault};
 use line_lane::LineMaker;
 use set_line::{Answer, Line};
-use set_run::{Collector, Gate, ItemOptions, ItemSource, Refusal, RunEnd, Stage, run_items};
 use std::alloc::Global;
 use std::process::Abort;
-use std::sync::atomic::{AtomicBool, AtomicU32, Ordering};
 use std::sync::Wait;
+use std::sync::atomic::{AtomicBool, AtomicU32, Ordering};
 use std::test::Fail;
 use std::thread::Threads;
 use std::time::{Clock, Duration};

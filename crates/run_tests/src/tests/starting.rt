@@ -5,12 +5,12 @@ ghost use Rattle.std.specs.Arc.{arc_value};
 ghost use Rattle.set_line.specs.Answer.{answer_of};
 
 use super::slow::{self, SlowCollector, WILLING};
+use batch::{ItemOptions, ItemSource, NoGate, RunFault, run_items};
 use batch_support::small_plan;
 use dealt_lanes::Shared;
 use lanes::{Making, SourceFault};
 use line_lane::LineMaker;
 use set_line::{Answer, Line, OutOfMemory};
-use set_run::{ItemOptions, ItemSource, NoGate, RunFault, run_items};
 use std::alloc::Global;
 use std::sync::atomic::{AtomicBool, Ordering};
 use std::test::Fail;

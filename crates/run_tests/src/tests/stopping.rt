@@ -1,6 +1,6 @@
 //! A batch whose collector refuses something returns, wherever its threads are then.
 use super::slow::{Before, Layout, Manner, Shared, WILLING, run_slowly};
-use set_run::Refusal;
+use batch::Refusal;
 use std::test::Fail;
 
 /// More lines than are ever set: such a source ends only if its thread is stopped.

@@ -1,11 +1,9 @@
 ghost use Rattle.std.specs.Prelude.{◌≡◌, None, option_map};
 ghost use Rattle.std.specs.Io.KnownBytes.{prepend_known};
 ghost use Rattle.set_line.specs.Lines.{lines_of};
-ghost use Rattle.set_run.specs.Sources.{gives_line};
+ghost use Rattle.batch.specs.Sources.{gives_known};
 
 use self::buffer::Buffer;
-pub use self::buffer::READ_SIZE;
-pub use self::raw_line::MOST_READS;
 use self::raw_line::{RawLine, next_raw_line};
 use self::state::ReaderState;
 use crate::LineSource;
@@ -52,7 +50,7 @@ impl<R: Read> ReaderSource<R> {
     /// or failed before.
     fn read_line(&mut self) -> Result<Option<Line>, SourceFault>
         requires { self.old.state ≡ ReaderState.Open }
-        ensures reads { gives_line ⟦<ReaderSource<R> as LineSource>⟧.to_come
+        ensures reads { gives_known ⟦<ReaderSource<R> as LineSource>⟧.to_come
             ⟦<ReaderSource<R> as LineSource>⟧.failed self.old result self.new }
         ensures origin { self.new.made_of.value ≡ self.old.made_of.value }
     {

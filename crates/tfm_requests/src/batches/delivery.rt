@@ -2,7 +2,7 @@
 ghost use Rattle.std.specs.Prelude.{◌≡◌, ◌≤◌, List, map, Err, IfErr, IfOk, OnOk, vec_len};
 ghost use Rattle.std.specs.Io.KnownBytes.{Keeps};
 ghost use Rattle.set_run.specs.declared.report.LaneReport.{LaneReport as Lane};
-ghost use Rattle.set_run.specs.declared.run_fault.RunFault.{RunFault as Fault};
+ghost use Rattle.batch.specs.declared.run_fault.RunFault.{RunFault as Fault};
 ghost use Rattle.line_chunks.specs.Reading.{Told};
 ghost use Rattle.run_texts.specs.ChunkLanes.{AreReadReports};
 ghost use Rattle.run_texts.specs.Endings.{summary_status};
@@ -13,12 +13,12 @@ ghost use Rattle.tfm_requests.specs.Status.{done_status, tool_status};
 ghost use Rattle.tfm_requests.specs.Told.{told_reader};
 
 use crate::failures::done::Done;
+use batch::NoGate;
 use command_line::Layout;
 use encodings::Encoding;
 use line_chunks::LineCounts;
 use run_texts::{OutputOptions, Summary, ToolFault, status, stream_readers};
 use set_line::Terms;
-use set_run::NoGate;
 use std::cell::Cell;
 use std::io::{Read, Write};
 use std::sync::{Arc, Wait};

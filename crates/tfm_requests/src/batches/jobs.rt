@@ -12,10 +12,10 @@ ghost use Rattle.tfm_requests.specs.Jobs.{AreTermsFor, AreTermsOf, AreWordsOfJob
 use crate::failures::errors::{FontError, JobError, RequestError};
 use crate::files::opening::{Opens, Purpose};
 use crate::files::reading::file_bytes;
+use batch::MOST_SOURCES;
 use command_line::Layout;
 use run_texts::{FontSetting, terms_of};
 use set_line::{Limit, Terms};
-use set_run::MOST_SOURCES;
 use std::alloc::Global;
 use std::sync::Arc;
 

@@ -3,8 +3,8 @@ ghost use Rattle.tfm_requests.specs.Status.{status_of};
 ghost use Rattle.tfm_requests.specs.declared.failures.failure.Failure.TheVariants.{Encoding as OfEncoding, File as OfFile, Font as OfFont, JobFont as OfJob, Request as OfRequest, Tool as OfTool};
 
 use super::errors::{EncodingError, FileError, FontError, JobError, RequestError};
+use batch::RunFault;
 use run_texts::ToolFault;
-use set_run::RunFault;
 use thiserror::Error;
 
 /// The reason why a request wasn't carried out. `Display` writes the message of the program on standard error.

@@ -1,11 +1,12 @@
 //! Batches of `run_texts` over readers: several readers, reads that fail, many lines, failing writers, the layout of a
 //! batch, the number of workers and the start barrier.
 use super::doubles::{FREE, Interrupted, Ways, check, reader};
+use batch::{Plan, RunFault};
 use batch_support::{CountingGate, plan, with_terms};
 use line_records::RecordFormat;
 use run_texts::{OutputOptions, ReportOptions, set_readers, stream_readers, terms_of};
 use set_line::{Limit, Policy, Version};
-use set_run::{Plan, ReaderSource, RunFault};
+use set_run::ReaderSource;
 use std::process::Abort;
 use std::sync::Wait;
 use std::thread::Threads;

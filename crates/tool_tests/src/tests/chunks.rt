@@ -1,10 +1,10 @@
 //! The chunks of a reader: when they are given, which lines they have, and how a reader ends.
 use super::doubles::{FREE, Ways, check, many_lines, reader};
-use line_chunks::{ChunkReader, ChunkText, RecordMaker};
+use batch::ItemSource;
 use lanes::SourceFault;
+use line_chunks::{ChunkReader, ChunkText, RecordMaker};
 use line_records::RecordFormat;
 use set_line::Version;
-use set_run::ItemSource;
 use std::io::Read;
 use std::process::Abort;
 use test_support::terms::plain_terms;

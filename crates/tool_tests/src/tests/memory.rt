@@ -5,12 +5,13 @@
 use super::doubles::COUNTS;
 use super::requests::{LINES, SKIPPED, vector};
 use super::single_functions::EMPTY_LISTING;
+use batch::NoGate;
 use batch_support::{small_plan, with_terms};
 use command_line::{Layout, Setting};
 use line_records::RecordFormat;
 use run_texts::{ReportOptions, set_each, terms_of};
 use set_line::{Limit, Policy, Version};
-use set_run::{NoGate, ReaderSource};
+use set_run::ReaderSource;
 use std::alloc::Global;
 use std::process::Abort;
 use std::sync::Wait;

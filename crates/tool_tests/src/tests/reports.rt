@@ -2,11 +2,11 @@
 //! source to source, a limit that is met, another size than the design size, each record format, sources that fail, and
 //! writers that fail or take no byte. The records are those of the worked examples in docs/TESTING.md.
 use super::doubles::check;
+use batch::NoGate;
 use batch_support::{FailingSource, small_plan};
 use lanes::SourceFault;
 use run_texts::{FontSetting, ReportOptions, Summary, ToolFault, set_each, set_text, terms_of};
 use set_line::{Limit, Policy, Version};
-use set_run::NoGate;
 use std::process::Abort;
 use std::sync::Wait;
 use std::thread::Threads;

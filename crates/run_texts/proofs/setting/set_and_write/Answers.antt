@@ -1,7 +1,7 @@
 use Rattle.std.proofs.Common.{arith, rules, List, ◌≡◌, ◌∙◌, [], ap, length, map, sym, Ok, sum_by}
-use Rattle.set_run.specs.Closed.{IsWhole}
-use Rattle.set_run.specs.declared.run_end.ClosedLane.{ClosedLane}
-use Rattle.set_run.specs.declared.run_end.RunEnd.{RunEnd}
+use Rattle.batch.specs.Closed.{IsWhole}
+use Rattle.batch.specs.declared.run_end.ClosedLane.{ClosedLane}
+use Rattle.batch.specs.declared.run_end.RunEnd.{RunEnd}
 use Rattle.line_chunks.specs.declared.chunk_reader.ChunkReader.{ChunkReader}
 use Rattle.run_texts.specs.ChunkLanes.{fault_told, lines_told, told_lane, told_readers}
 use Rattle.run_texts.specs.ReportText.{summary_of_ends, summary_of_lanes}

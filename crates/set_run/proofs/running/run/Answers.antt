@@ -2,7 +2,7 @@ use Rattle.std.proofs.Common.{arith, List, [], length, ap, subst, sym}
 use Rattle.std.specs.Prelude.{map}
 use Rattle.std.proofs.lemmas.List.{length-replicate}
 use Rattle.set_line.specs.Answer.{AnswerValue}
-use Rattle.set_run.specs.Closed.{AreBack}
+use Rattle.batch.specs.Closed.{AreBack}
 use Rattle.set_run.specs.Reports.{AreReported}
 use Rattle.set_run.proofs.FinishedLemmas.{answered, by_ok, closed_length, none_kept, reported_kept, same_sources}
 use Rattle.set_run.proofs.running.run.Goals as goal

@@ -3,14 +3,12 @@ ghost use Rattle.std.specs.List.{position};
 ghost use Rattle.std.specs.Io.KnownBytes.{Consumes, IsAtEnd};
 ghost use Rattle.set_run.specs.Reading.{MovesLine};
 
+use batch::READ_SIZE;
 use lanes::SourceFault;
 use memchr::memchr;
 use std::alloc::Global;
 use std::io::{ErrorKind, Read};
 use std::marker::Model;
-
-/// The largest number of bytes of one read.
-pub const READ_SIZE: usize = 4096;
 
 /// The bytes of the last read that aren't in a line yet: those of `space` from `start` to before `end`.
 #[derive(Drop)]

@@ -3,12 +3,10 @@ ghost use Rattle.std.specs.Io.KnownBytes.{prepend_known};
 ghost use Rattle.set_run.specs.Reading.{TakesRawLine};
 
 use crate::sources::reader_source::buffer::Buffer;
+use batch::MOST_READS;
 use lanes::SourceFault;
 use std::alloc::Global;
 use std::io::Read;
-
-/// The largest number of reads for one line.
-pub const MOST_READS: u32 = 1_048_576;
 
 /// The bytes before a line feed or before the end of the reader.
 #[derive(Drop)]

@@ -1,5 +1,5 @@
 use Rattle.std.specs.Prelude.{is_ok}
-use Rattle.set_run.specs.Events.{Ended}
+use Rattle.batch.specs.Events.{Ended}
 use Rattle.run_texts.specs.StreamState.{IsStreamOf}
 use Rattle.run_texts.specs.declared.streaming.Begun.{Begun}
 use Rattle.run_texts.proofs.StreamLemmas.{gets_within}

@@ -1,0 +1,9 @@
+pub mod GivenLemmas
+pub mod Zips
+pub mod SameEnds
+pub mod WorkerLemmas
+pub mod EventLemmas
+pub mod TakerLemmas
+pub mod LaneLemmas
+pub mod SpawningLemmas
+pub mod HaveMore

@@ -1,0 +1,9 @@
+pub mod Sources
+pub mod Calls
+pub mod Events
+pub mod Given
+pub mod Workers
+pub mod Collecting
+pub mod Closed
+pub mod Lanes
+pub mod Gathering

@@ -1,6 +1,0 @@
--- this many empty lists were made
-use Rattle.std.proofs.Common.{◌≡◌, [], replicate}
-use Rattle.set_run.proofs.collecting.answer_lists.AnswerLists.new.Given as goal
-
-abbrev pub invariant-loop-made : goal.invariant-loop-made
-invariant-loop-made l = l.lists.items ≡ replicate l.made []

@@ -1,5 +1,0 @@
--- each level has one source fewer
-use Rattle.set_run.proofs.threads.spawning.+start_sources.Given as goal
-
-abbrev pub decreases-start_sources : goal.decreases-start_sources
-decreases-start_sources g l = l.sources.len

@@ -1,5 +1,0 @@
--- each level has one worker fewer
-use Rattle.set_run.proofs.threads.spawning.+start_workers.Given as goal
-
-abbrev pub decreases-start_workers : goal.decreases-start_workers
-decreases-start_workers g l = l.workers.len
