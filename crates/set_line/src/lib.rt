@@ -21,7 +21,7 @@ pub use records::writing::write_item_text;
 pub use run_plan::{Limit, OutOfMemory, Policy, Version};
 pub use setting::{MOST_BYTES, find_refusal, set, set_bytes};
 pub use terms::Terms;
-pub use width::{total_width, with_item};
+pub use width::total_width;
 
 mod answer;
 mod cutting;

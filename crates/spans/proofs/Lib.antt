@@ -1,5 +1,4 @@
 pub mod OutcomeLemmas
 pub mod PlaceLaws
 pub mod RefusalLemmas
-pub mod WidthLemmas
 pub mod WorkedRows

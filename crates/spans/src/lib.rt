@@ -18,4 +18,3 @@ mod placed_item;
 mod refusing;
 mod setting;
 mod span;
-mod width;

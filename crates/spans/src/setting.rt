@@ -4,10 +4,9 @@ ghost use Rattle.spans.specs.PlaceLaws.{AreItemsBy, AreItemsOf, HasGrown, IsBoun
 ghost use Rattle.spans.specs.Spans.{outcome_of, refusal_of};
 
 use crate::refusing::accepted_codes;
-use crate::width::width_of;
 use crate::{PlacedItem, Span, SpanOutcome, SpanRefusal, SpanSize};
 use lig_kern::{Ends, Item, RunItem, WordFault, WordFont, set_run_of};
-use set_line::{Limit, OutOfMemory};
+use set_line::{Limit, OutOfMemory, total_width};
 use std::alloc::Global;
 
 /// Sets a span of a text as [`SpanSetter::set`] does, and appends its items to `out`.
@@ -42,7 +41,7 @@ fn set_span<F: WordFont, O: RunItem>(
     let before = out.len();
     match set_run_of(font, codes, ends, limit.get(), out) {
         Ok(steps) => Ok(SpanOutcome::Set(SpanSize {
-            width: width_of(&out[before..]),
+            width: total_width(&out[before..]),
             items: out.len() - before,
             steps,
         })),

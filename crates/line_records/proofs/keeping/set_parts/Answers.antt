@@ -1,6 +1,7 @@
 use Rattle.std.proofs.Common.{rules, ◌≡◌, arith, ap, refl, ◌∙◌, w64}
 use mir.Val.{bool_byte}
 use Rattle.std.proofs.lemmas.Int.{to_z-of_z}
+use Rattle.std.proofs.lemmas.List.{map-id}
 use Rattle.std.specs.List.{count_by}
 use Rattle.std.specs.Option.{option_map_or}
 use Rattle.encodings.specs.Visited.{value_of}
@@ -51,7 +52,7 @@ returns c =
       so_far.1 ∙ ap (set_after terms (setting c.loop-part.steps so_far.0)) (c.in-None.ensures).steps.0
           ∙ nothing_after terms (setting c.loop-part.steps so_far.0),
       all_set c.args.format so_far.0 c.loop-part.lists.items.items c.loop-part.gaps c.loop-part.steps c.loop-part.lists.texts.items _ so_far.2
-          (to_z-of_z w64 c.total_width.result (search rules) ∙ c.total_width.ensures ∙ ap total_width c.deref.ensures.value) refl
+          (to_z-of_z w64 c.total_width.result (search rules) ∙ c.total_width.ensures ∙ ap total_width (map-id c.deref.result.now ∙ c.deref.ensures.value)) refl
           (omega (arith, c.len.ensures, c.loop-part.lists.items.ok.0)) (omega (arith, c.count_skipped.ensures.value, ap (count_by is_skipped) c.deref-2.ensures.value)) (c.count_spaces.ensures ∙ ap (λ items. spaces_for c.args.format (count_by is_glue items)) c.deref-3.ensures.value)
           (omega (arith, c.len-2.ensures, c.loop-part.lists.texts.ok.0)),
     )
