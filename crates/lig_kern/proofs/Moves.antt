@@ -1,12 +1,9 @@
 -- The effect of a step of the code, by the action between the current symbol and the next one.
-use Rattle.std.proofs.Common.{◌≡◌, ℕ, suc, zero, ◌+◌, ◌<◌, ◌≤◌, Bool, true, false, ℤ, List, [], ◌∷◌, ◌++◌, length, map, take, drop, Option, Some, None, IfSome, arith, rules, refl, ap, sym, subst, ◌∙◌, append_assoc, append-nil, length-append}
+use Rattle.std.proofs.Common.{◌≡◌, ℕ, suc, zero, ◌+◌, ◌<◌, ◌≤◌, Bool, true, false, ℤ, List, [], ◌∷◌, ◌++◌, length, map, drop, Option, Some, None, IfSome, arith, rules, refl, ap, sym, subst, ◌∙◌, append_assoc, append-nil, length-append}
 use Rattle.std.specs.Prelude.{if◌then◌else◌}
 use Rattle.std.specs.List.{slice_get}
 use Rattle.std.specs.Option.{option_and_then}
-use Rattle.std.proofs.lemmas.List.{get_or-append-add}
 use Rattle.std.proofs.lemmas.List.Elements.{filter_map-append}
-use Rattle.std.proofs.lemmas.Option.{slice_get-get_or}
-use Rattle.std.proofs.Math.Seq.{take-append_seam, drop-append-add, get_or-append_seam}
 use Rattle.tfm_tables.specs.Font.{FontValue}
 use Rattle.lig_kern.specs.declared.symbol.Symbol.TheVariants.{Char}
 use Rattle.lig_kern.specs.declared.action.Action.{Action}
@@ -14,12 +11,13 @@ use Rattle.lig_kern.specs.declared.action.Action.TheVariants.{Kern, Lig}
 use Rattle.lig_kern.specs.declared.item.Item.TheVariants.{Kern as KernItem}
 use Rattle.lig_kern.specs.Matching.{action_between}
 use Rattle.lig_kern.specs.Rewriting.{of_symbol, of_kern, splice_by}
+use Rattle.lig_kern.proofs.Steps.{here, there, put_there}
 use Rattle.lig_kern.proofs.Within.{StaysWithin, bit, between_within}
 use Rattle.lig_kern.specs.declared.item.Item.{Item}
 use Rattle.lig_kern.specs.declared.place.Place.{Place}
 use Rattle.lig_kern.specs.declared.placed_symbol.PlacedSymbol.{PlacedSymbol}
-use Rattle.lig_kern.specs.Places.{Placed, PlacedConfiguration, before, inserted_place, kept, placed_after, placed_by, placed_item, placed_items, placed_step, replaced}
-use Rattle.lig_kern.specs.Walking.{HasMoved, at, placed_of}
+use Rattle.lig_kern.specs.Places.{Placed, PlacedConfiguration, before, inserted_place, kept, placed_after, placed_by, placed_item, placed_items, placed_of, placed_step}
+use Rattle.lig_kern.specs.Walking.{HasMoved, at}
 
 -- the symbols ahead are the first one and the symbols after it
 pub first_and_rest : (ahead : List PlacedSymbol) (next : PlacedSymbol) → slice_get ahead 0 ≡ Some next → ahead ≡ next ∷ drop 1 ahead
@@ -30,21 +28,6 @@ pub placed_items-append : {O : Type 0} (made : Item → Place → O) (font : Fon
 unfolding placed_items
 placed_items-append made font xs ys = filter_map-append (placed_item made font) xs ys
 
--- the configuration after a replacement, whose first elements are added to those before the current symbol
-replaced_at : (done : List Placed) (current next : PlacedSymbol) (rest : List PlacedSymbol) (action : Option Action) (sent : List Placed) (current' : PlacedSymbol) (ahead' : List PlacedSymbol)
-    → placed_by action (placed_of current) (placed_of next) ++ map placed_of rest ≡ sent ++ placed_of current' ∷ map placed_of ahead'
-    → (splice_by action (of_symbol current.symbol) (of_symbol next.symbol)).pass ≡ length sent
-    → replaced (at done current (next ∷ rest)) action (placed_of current) (placed_of next) ≡ at (done ++ sent) current' ahead'
-replaced_at done current next rest action sent current' ahead' put passed =
-    let whole = done ++ placed_of current ∷ placed_of next ∷ map placed_of rest in
-    let front : take (length done) whole ≡ done = take-append_seam done _ in
-    let back : drop (length done + 2) whole ≡ map placed_of rest = drop-append-add done _ 2 in
-    let elements : take (length done) whole ++ placed_by action (placed_of current) (placed_of next) ++ drop (length done + 2) whole
-    ≡ (done ++ sent) ++ placed_of current' ∷ map placed_of ahead' =
-    rw front (rw back (append_assoc done (placed_by action (placed_of current) (placed_of next)) _ ∙ ap (λ more. done ++ more) put ∙ sym (append_assoc done sent _))) in
-    let cursor : length done + (splice_by action (of_symbol current.symbol) (of_symbol next.symbol)).pass ≡ length (done ++ sent) = omega (arith, length-append done sent, passed) in
-    rw elements (rw cursor refl)
-
 -- a step of which the action is known
 moves : (font : FontValue) (current next : PlacedSymbol) (rest : List PlacedSymbol) (action : Option Action) (sent : List Placed) (current' : PlacedSymbol) (ahead' : List PlacedSymbol)
     → action_between font current.symbol next.symbol ≡ action
@@ -53,13 +36,11 @@ moves : (font : FontValue) (current next : PlacedSymbol) (rest : List PlacedSymb
     → (done : List Placed) → placed_step font (at done current (next ∷ rest)) ≡ Some (at (done ++ sent) current' ahead')
 unfolding placed_step
 moves font current next rest action sent current' ahead' is put passed done =
-    let whole : List Placed = done ++ placed_of current ∷ placed_of next ∷ map placed_of rest in
-    let long : length whole ≡ length done + length (placed_of current ∷ placed_of next ∷ map placed_of rest) = length-append done _ in
-    let here : slice_get whole (length done) ≡ Some (placed_of current) =
-    slice_get-get_or whole (length done) (placed_of current) (omega arith) ∙ ap Some (get_or-append_seam done (placed_of current) _ (placed_of current)) in
-    let there : slice_get whole (length done + 1) ≡ Some (placed_of next) =
-    slice_get-get_or whole (length done + 1) (placed_of next) (omega arith) ∙ ap Some (get_or-append-add done _ 1 (placed_of next)) in
-    rw here (rw there (rw is (ap Some (replaced_at done current next rest action sent current' ahead' put passed))))
+    let elements =
+    put_there done (placed_of current) (placed_of next) (map placed_of rest) (placed_by action (placed_of current) (placed_of next)) sent (placed_of current' ∷ map placed_of ahead') put in
+    let cursor : length done + (splice_by action (of_symbol current.symbol) (of_symbol next.symbol)).pass ≡ length (done ++ sent) = omega (arith, length-append done sent, passed) in
+    rw (here done (placed_of current) (placed_of next) (map placed_of rest)) (rw (there done (placed_of current) (placed_of next) (map placed_of rest))
+    (rw is (rw elements (rw cursor refl))))
 
 one_step : (font : FontValue) (c d : PlacedConfiguration) → placed_step font c ≡ Some d → placed_after font 1 c ≡ Some d
 unfolding placed_after

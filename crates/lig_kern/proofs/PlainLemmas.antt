@@ -1,10 +1,6 @@
 -- The effect of a plain action.
-use Rattle.std.proofs.Common.{◌≡◌, ℕ, suc, zero, ◌+◌, true, false, List, [], ◌∷◌, ◌++◌, length, map, take, drop, Option, Some, None, arith, refl, ap, sym, ◌∙◌, append_assoc, length-append}
-use Rattle.std.specs.List.{slice_get}
-use Rattle.std.proofs.lemmas.List.{get_or-append-add}
+use Rattle.std.proofs.Common.{◌≡◌, ℕ, suc, zero, ◌+◌, true, false, List, [], ◌∷◌, ◌++◌, length, map, Option, Some, None, arith, refl, ap, length-append}
 use Rattle.std.proofs.lemmas.List.Elements.{filter_map-append}
-use Rattle.std.proofs.lemmas.Option.{slice_get-get_or}
-use Rattle.std.proofs.Math.Seq.{take-append_seam, drop-append-add, get_or-append_seam}
 use Rattle.tfm_tables.specs.Font.{FontValue}
 use Rattle.lig_kern.specs.declared.action.Action.{Action}
 use Rattle.lig_kern.specs.declared.action.Action.TheVariants.{Kern, Lig}
@@ -13,8 +9,8 @@ use Rattle.lig_kern.specs.declared.plainly.Plain.TheVariants.{Passes, Replaces}
 use Rattle.lig_kern.specs.declared.symbol.Symbol.{Symbol}
 use Rattle.lig_kern.specs.Matching.{action_between}
 use Rattle.lig_kern.specs.Plain.{plain_next, plain_of, plain_sent}
-use Rattle.lig_kern.specs.Rewriting.{Configuration, Element, Splice, after_steps, is_final, item_of, items_of, of_symbol, splice_by, spliced, step_from}
-use Rattle.lig_kern.proofs.Steps.{settled}
+use Rattle.lig_kern.specs.Rewriting.{Configuration, Element, after_steps, is_final, item_of, items_of, of_symbol, splice_by, step_from}
+use Rattle.lig_kern.proofs.Steps.{here, there, put_there, settled}
 
 -- the action that is this plain one
 abbrev pub action_by : Plain → Option Action
@@ -41,33 +37,18 @@ items_of-append font xs ys = filter_map-append (item_of font) xs ys
 abbrev pub at : List Element → Symbol → List Symbol → Configuration
 at done current ahead = record { elements = done ++ of_symbol current ∷ map of_symbol ahead; cursor = length done }
 
--- the configuration after a replacement, whose first elements are added to those before the current symbol
-spliced_at : (done : List Element) (current next : Symbol) (rest : List Symbol) (splice : Splice) (sent : List Element) (current' : Symbol) (ahead' : List Symbol)
-    → splice.elements ++ map of_symbol rest ≡ sent ++ of_symbol current' ∷ map of_symbol ahead' → splice.pass ≡ length sent
-    → spliced (at done current (next ∷ rest)) splice ≡ at (done ++ sent) current' ahead'
-spliced_at done current next rest splice sent current' ahead' put passed =
-    let whole = done ++ of_symbol current ∷ of_symbol next ∷ map of_symbol rest in
-    let front : take (length done) whole ≡ done = take-append_seam done _ in
-    let back : drop (length done + 2) whole ≡ map of_symbol rest = drop-append-add done _ 2 in
-    let elements : take (length done) whole ++ splice.elements ++ drop (length done + 2) whole ≡ (done ++ sent) ++ of_symbol current' ∷ map of_symbol ahead' =
-    rw front (rw back (append_assoc done splice.elements _ ∙ ap (λ more. done ++ more) put ∙ sym (append_assoc done sent _))) in
-    let cursor : length done + splice.pass ≡ length (done ++ sent) = omega (arith, length-append done sent) in
-    rw elements (rw cursor refl)
-
 -- the items after a step of which the action is plain, and then some more steps
 pub settles_next : (font : FontValue) (n : ℕ) (done : List Element) (current next : Symbol) (rest : List Symbol) (plain : Plain) → plain_of (action_between font current next) ≡ Some plain
     → settled font (suc n) (at done current (next ∷ rest)) ≡ settled font n (at (done ++ plain_sent plain current) (plain_next plain next) rest)
 unfolding after_steps step_from
 settles_next font n done current next rest plain is =
-    let whole : List Element = done ++ of_symbol current ∷ of_symbol next ∷ map of_symbol rest in
-    let long : length whole ≡ length done + length (of_symbol current ∷ of_symbol next ∷ map of_symbol rest) = length-append done _ in
-    let here : slice_get whole (length done) ≡ Some (of_symbol current) =
-    slice_get-get_or whole (length done) (of_symbol current) (omega arith) ∙ ap Some (get_or-append_seam done (of_symbol current) _ (of_symbol current)) in
-    let there : slice_get whole (length done + 1) ≡ Some (of_symbol next) =
-    slice_get-get_or whole (length done + 1) (of_symbol next) (omega arith) ∙ ap Some (get_or-append-add done _ 1 (of_symbol next)) in
-    rw here (rw there (rw (plain_is (action_between font current next) plain is)
-    (ap (settled font n) (spliced_at done current next rest (splice_by (action_by plain) (of_symbol current) (of_symbol next)) (plain_sent plain current) (plain_next plain next) rest
-    (put plain) (passed plain)))))
+    let elements =
+    put_there done (of_symbol current) (of_symbol next) (map of_symbol rest) (splice_by (action_by plain) (of_symbol current) (of_symbol next)).elements (plain_sent plain current)
+    (of_symbol (plain_next plain next) ∷ map of_symbol rest) (put plain) in
+    let cursor : length done + (splice_by (action_by plain) (of_symbol current) (of_symbol next)).pass ≡ length (done ++ plain_sent plain current) =
+    omega (arith, length-append done (plain_sent plain current), passed plain) in
+    rw (here done (of_symbol current) (of_symbol next) (map of_symbol rest)) (rw (there done (of_symbol current) (of_symbol next) (map of_symbol rest))
+    (rw (plain_is (action_between font current next) plain is) (rw elements (rw cursor refl))))
   where
     put : (plain : Plain) → (splice_by (action_by plain) (of_symbol current) (of_symbol next)).elements ++ map of_symbol rest
         ≡ plain_sent plain current ++ of_symbol (plain_next plain next) ∷ map of_symbol rest

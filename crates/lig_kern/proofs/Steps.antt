@@ -1,13 +1,34 @@
 -- Several steps of the rewriting, one after the other.
-use Rattle.std.proofs.Common.{◌≡◌, ℕ, suc, zero, ◌+◌, ◌-◌, ◌<◌, ◌≤◌, Bool, true, false, List, length, Option, Some, None, arith, refl, ap, sym, ◌∙◌}
+use Rattle.std.proofs.Common.{◌≡◌, ℕ, suc, zero, ◌+◌, ◌-◌, ◌<◌, ◌≤◌, Bool, true, false, List, ◌∷◌, ◌++◌, length, take, drop, Option, Some, None, arith, refl, ap, sym, ◌∙◌, append_assoc, length-append}
 use Rattle.std.specs.Prelude.{nat_lt, if◌then◌else◌}
 use Rattle.std.proofs.lemmas.Bool.{leb-true, ltb-true, ltb-false}
 use Rattle.std.specs.List.{slice_get}
 use Rattle.std.specs.Option.{option_and_then, option_map}
-use Rattle.std.proofs.lemmas.Option.{slice_get_past}
+use Rattle.std.proofs.lemmas.List.{get_or-append-add}
+use Rattle.std.proofs.lemmas.Option.{slice_get-get_or, slice_get_past}
+use Rattle.std.proofs.Math.Seq.{take-append_seam, drop-append-add, get_or-append_seam}
 use Rattle.tfm_tables.specs.Font.{FontValue}
 use Rattle.lig_kern.specs.declared.item.Item.{Item}
 use Rattle.lig_kern.specs.Rewriting.{Configuration, Element, action_at, after_steps, final_items, is_final, items_of, splice_by, spliced, step_from}
+
+-- ---- the current element and the next one, after those that are done
+
+module _ {A : Type 0} (done : List A) (x y : A) (rest : List A) where
+  pub here : slice_get (done ++ x ∷ y ∷ rest) (length done) ≡ Some x
+  here = slice_get-get_or (done ++ x ∷ y ∷ rest) (length done) x (omega (arith, length-append done (x ∷ y ∷ rest))) ∙ ap Some (get_or-append_seam done x (y ∷ rest) x)
+
+  pub there : slice_get (done ++ x ∷ y ∷ rest) (length done + 1) ≡ Some y
+  there = slice_get-get_or (done ++ x ∷ y ∷ rest) (length done + 1) y (omega (arith, length-append done (x ∷ y ∷ rest))) ∙ ap Some (get_or-append-add done (x ∷ y ∷ rest) 1 y)
+
+  -- both are replaced by the first elements of what follows
+  pub put_there : (put sent after : List A) → put ++ rest ≡ sent ++ after
+      → take (length done) (done ++ x ∷ y ∷ rest) ++ put ++ drop (length done + 2) (done ++ x ∷ y ∷ rest) ≡ (done ++ sent) ++ after
+  put_there put sent after same =
+      let front : take (length done) (done ++ x ∷ y ∷ rest) ≡ done = take-append_seam done (x ∷ y ∷ rest) in
+      let back : drop (length done + 2) (done ++ x ∷ y ∷ rest) ≡ rest = drop-append-add done (x ∷ y ∷ rest) 2 in
+      rw front (rw back (append_assoc done put rest ∙ ap (λ more. done ++ more) same ∙ sym (append_assoc done sent after)))
+
+-- ---- several steps
 
 -- several steps and then some more, of any rewriting
 pub after_both : {C : Type 0} (step : C → Option C) (after : ℕ → C → Option C) → ((c : C) → after zero c ≡ Some c)

@@ -1,7 +1,6 @@
 -- Several steps of the code, and the outcome at each end of the loop.
 use Rattle.std.proofs.Common.{◌≡◌, ℕ, suc, ◌+◌, ◌<◌, ◌≤◌, Bool, true, false, List, [], ◌∷◌, ◌++◌, drop, drop-cons, get_or, length, map, Option, Some, None, arith, rules, refl, ap, sym, ◌∙◌, append_assoc, append-nil, length-append}
-use Rattle.std.specs.Prelude.{if◌then◌else◌, is_some}
-use Rattle.std.proofs.lemmas.Bool.{true≢false}
+use Rattle.std.specs.Prelude.{if◌then◌else◌}
 use Rattle.std.specs.List.{slice_get}
 use Rattle.std.proofs.lemmas.List.{length-map}
 use Rattle.std.specs.Option.{option_and_then, option_map}
@@ -12,8 +11,8 @@ use Rattle.lig_kern.specs.declared.placed_symbol.PlacedSymbol.{PlacedSymbol}
 use Rattle.lig_kern.specs.declared.symbol.Symbol.TheVariants.{Char}
 use Rattle.lig_kern.specs.Rewriting.{Configuration, Element, of_symbol, opening, is_final as is_settled}
 use Rattle.lig_kern.specs.Result.{HasNoResultFrom, result_from}
-use Rattle.lig_kern.specs.Places.{AreAppended, Placed, PlacedConfiguration, elements_alone, erased, final_places, is_final, placed_after, placed_items, placed_step, places_after}
-use Rattle.lig_kern.specs.Walking.{HasMoved, at, codes_ahead, placed, placed_of, symbols_alone}
+use Rattle.lig_kern.specs.Places.{AreAppended, Placed, PlacedConfiguration, codes_ahead, elements_alone, erased, final_places, is_final, placed, placed_after, placed_items, placed_of, placed_step, places_after}
+use Rattle.lig_kern.specs.Walking.{HasMoved, at, symbols_alone}
 use Rattle.lig_kern.proofs.Erasing.{erase_after}
 use Rattle.lig_kern.proofs.Moves.{placed_items-append}
 use Rattle.lig_kern.proofs.Steps.{after_both, settled, unended}
@@ -52,11 +51,6 @@ code_next codes used at hyphen stands within =
 
 -- ---- the ends
 
--- an option that has no value is None
-pub not_there : {A : Type 0} (o : Option A) → is_some o ≡ false → o ≡ None
-not_there None e = refl
-not_there (Some x) e = absurd (true≢false e)
-
 -- a configuration whose current symbol is the last one is final, and one with a symbol ahead of it isn't
 last_is_final : (done : List Placed) (current : PlacedSymbol) → is_final (at done current []) ≡ true
 last_is_final done current =
@@ -93,11 +87,11 @@ module _ {O : Type 0} (made : Item → Place → O) (font : FontValue) (first : 
       shown true e = refl
       shown false e = absurd (cc)
 
-  pub never_ends : (ahead : List PlacedSymbol) (before out : List O) → HasMoved made font used first symbols current ahead before out
-      → is_some (slice_get ahead 0) ≡ true → limit ≤ used → HasNoResultFrom font (symbols_alone (first ∷ symbols)) limit
+  pub never_ends : (ahead : List PlacedSymbol) (next : PlacedSymbol) (before out : List O) → HasMoved made font used first symbols current ahead before out
+      → slice_get ahead 0 ≡ Some next → limit ≤ used → HasNoResultFrom font (symbols_alone (first ∷ symbols)) limit
   unfolding result_from opening
-  never_ends [] before out way more reached = absurd (search rules)
-  never_ends (x ∷ rest) before out way more reached = λ n within.
+  never_ends [] next before out way more reached = absurd (search rules)
+  never_ends (x ∷ rest) next before out way more reached = λ n within.
       ap (λ elements. settled font n (opened elements)) (sym (alone_are (first ∷ symbols)))
       ∙ unended font used n (erased (at [] first symbols)) (erased (at way.sent current (x ∷ rest)))
       (sym (erase_after font used (at [] first symbols)) ∙ ap (option_map erased) (way.steps [])) (isnt_final way.sent current x rest) (omega arith)

@@ -1,18 +1,20 @@
 -- A run that is set as in Rewriting, in which each element carries the range of the bytes of a text that it comes
 -- from.
 -- Public source: The METAFONTbook, Appendix F, for the rewriting. The ranges are this project's own.
-use Rattle.std.specs.Prelude.{◌≡◌, ◌≤◌, ℕ, zero, suc, ◌+◌, nat_le, Bool, true, false, List, [], ◌∷◌, ◌++◌, length, map, take, drop, Option, Some, None, if◌then◌else◌}
+use Rattle.std.specs.Prelude.{◌≡◌, ◌≤◌, ℕ, zero, suc, ◌+◌, nat_le, Bool, true, false, ◌&&◌, List, [], ◌∷◌, ◌++◌, length, map, take, drop, Option, Some, None, is_some, if◌then◌else◌}
 use Rattle.std.specs.List.{filter_map, slice_get}
 use Rattle.std.specs.Option.{option_and_then, option_map, option_map_or}
 use Rattle.tfm_tables.specs.Font.{FontValue}
+use Rattle.tfm_tables.specs.Program.{program_of, right_code_of}
 use Rattle.lig_kern.specs.declared.symbol.Symbol.{Symbol}
-use Rattle.lig_kern.specs.declared.symbol.Symbol.TheVariants.{Left, Char}
+use Rattle.lig_kern.specs.declared.symbol.Symbol.TheVariants.{Left, Char, Right}
 use Rattle.lig_kern.specs.declared.action.Action.{Action}
 use Rattle.lig_kern.specs.declared.action.Action.TheVariants.{Kern, Lig}
 use Rattle.lig_kern.specs.declared.ends.Ends.{Ends}
 use Rattle.lig_kern.specs.declared.item.Item.{Item}
 use Rattle.lig_kern.specs.declared.place.Place.{Place}
-use Rattle.lig_kern.specs.Rewriting.{Configuration, Element, of_symbol, of_kern, action_at, splice_by, item_of, right_end, symbols_with}
+use Rattle.lig_kern.specs.declared.placed_symbol.PlacedSymbol.{PlacedSymbol}
+use Rattle.lig_kern.specs.Rewriting.{Configuration, Element, of_symbol, of_kern, action_at, splice_by, item_of, symbols_with}
 
 -- an element of a run, with the bytes that it comes from
 pub record Placed : Type 0 where
@@ -24,32 +26,48 @@ pub record PlacedConfiguration : Type 0 where
   pub elements : List Placed
   pub cursor : ℕ
 
--- ---- the places before the first step
+-- ---- the run before its first step
 
 -- a symbol that comes from the bytes from `start` to before `end`
-abbrev pub symbol_at : Symbol → ℕ → ℕ → Placed
-symbol_at symbol start end = record { element = of_symbol symbol; place = record { start = start; end = end } }
+abbrev pub placed : Symbol → ℕ → ℕ → PlacedSymbol
+placed symbol start end = record { symbol = symbol; place = record { start = start; end = end } }
 
--- the characters of these codes, of which the first is the byte at this offset, each from its own byte
-abbrev pub characters_from : ℕ → List ℕ → List Placed
-characters_from offset [] = []
-characters_from offset (code ∷ codes) = symbol_at (Char code) offset (offset + 1) ∷ characters_from (offset + 1) codes
+-- the left boundary at this offset, if `left` is true
+abbrev pub left_at : ℕ → Bool → List PlacedSymbol
+left_at offset true = placed Left offset offset ∷ []
+left_at offset false = []
 
--- symbols that come from the empty range at this offset
-abbrev pub all_at : ℕ → List Symbol → List Placed
-all_at offset symbols = map (λ symbol. symbol_at symbol offset offset) symbols
+-- the right boundary at this offset, if `right` is true
+abbrev pub end_at : ℕ → Bool → List PlacedSymbol
+end_at offset true = placed Right offset offset ∷ []
+end_at offset false = []
+
+-- codes of which the first is at this offset, each from its own byte; then, from no byte, the hyphen, if there is one, and
+-- the right boundary, if `right` is true
+abbrev pub codes_ahead : List ℕ → ℕ → Option ℕ → Bool → List PlacedSymbol
+codes_ahead [] offset None right = end_at offset right
+codes_ahead [] offset (Some code) right = placed (Char code) offset offset ∷ end_at offset right
+codes_ahead (code ∷ codes) offset hyphen right = placed (Char code) offset (offset + 1) ∷ codes_ahead codes (offset + 1) hyphen right
+
+-- the symbols of a run of these codes with these ends; the right boundary is the last one if `right` is true
+abbrev pub symbols_at : List ℕ → Ends → Bool → List PlacedSymbol
+symbols_at codes ends right = left_at ends.offset ends.left ++ codes_ahead codes ends.offset ends.hyphen right
+
+-- whether the right boundary follows a run: it is requested, and the font has a right boundary character
+abbrev pub has_end : FontValue → Bool → Bool
+has_end font right = right && is_some (right_code_of (program_of font.words))
+
+-- a symbol as an element
+abbrev pub placed_of : PlacedSymbol → Placed
+placed_of one = record { element = of_symbol one.symbol; place = one.place }
+
+-- the elements of a run of these codes with these ends
+unfoldable pub placed_run : FontValue → List ℕ → Ends → List Placed
+placed_run font codes ends = map placed_of (symbols_at codes ends (has_end font ends.right))
 
 -- the hyphen code alone, and nothing if there is none
 abbrev pub hyphen_codes : Option ℕ → List ℕ
 hyphen_codes hyphen = option_map_or (λ code. code ∷ []) hyphen []
-
--- the elements of a run of these codes with these ends: the left boundary, if it precedes them, is at the start of
--- the codes; the hyphen and the right boundary are at their end
-unfoldable pub placed_run : FontValue → List ℕ → Ends → List Placed
-placed_run font codes ends =
-    all_at ends.offset (if ends.left then Left ∷ [] else [])
-    ++ characters_from ends.offset codes
-    ++ all_at (ends.offset + length codes) (map Char (hyphen_codes ends.hyphen) ++ right_end font ends.right)
 
 -- the symbols of a run of these codes with these ends
 abbrev pub run_symbols : FontValue → List ℕ → Ends → List Symbol

@@ -1,49 +1,19 @@
 -- How the code represents a run that is being set: the current symbol and the symbols ahead of it. Everything
 -- to the left of the current symbol is already in the list of items. This project's own; each such state
 -- represents a configuration (defined in Places).
-use Rattle.std.specs.Prelude.{◌≡◌, ℕ, ◌+◌, Bool, true, false, List, [], ◌∷◌, ◌++◌, length, map, reverse, Option, Some, None, MatchOption}
+use Rattle.std.specs.Prelude.{◌≡◌, ℕ, Bool, List, ◌∷◌, ◌++◌, length, map, reverse, Option, Some, MatchOption}
 use Rattle.tfm_tables.specs.Font.{FontValue}
 use Rattle.lig_kern.specs.declared.item.Item.{Item}
 use Rattle.lig_kern.specs.declared.place.Place.{Place}
 use Rattle.lig_kern.specs.declared.placed_symbol.PlacedSymbol.{PlacedSymbol}
 use Rattle.lig_kern.specs.declared.symbol.Symbol.{Symbol}
-use Rattle.lig_kern.specs.declared.symbol.Symbol.TheVariants.{Left, Char, Right}
-use Rattle.lig_kern.specs.Rewriting.{of_symbol}
 use Rattle.lig_kern.specs.Result.{HasNoResultFrom}
-use Rattle.lig_kern.specs.Places.{AreAppended, Placed, PlacedConfiguration, placed_after, placed_items}
-
--- the symbol that comes from these bytes
-abbrev pub placed : Symbol → ℕ → ℕ → PlacedSymbol
-placed symbol start end = record { symbol = symbol; place = record { start = start; end = end } }
-
--- the left boundary at this offset, if `left` is true
-abbrev pub left_at : ℕ → Bool → List PlacedSymbol
-left_at offset true = placed Left offset offset ∷ []
-left_at offset false = []
-
--- the right boundary at this offset, if `right` is true
-abbrev pub end_at : ℕ → Bool → List PlacedSymbol
-end_at offset true = placed Right offset offset ∷ []
-end_at offset false = []
-
--- the hyphen at this offset, and the right boundary after it
-abbrev pub hyphen_at : ℕ → Option ℕ → Bool → List PlacedSymbol
-hyphen_at offset (Some code) right = placed (Char code) offset offset ∷ end_at offset right
-hyphen_at offset None right = end_at offset right
-
--- codes of which the first is at this offset, then the hyphen, then the right boundary
-abbrev pub codes_ahead : List ℕ → ℕ → Option ℕ → Bool → List PlacedSymbol
-codes_ahead [] offset hyphen right = hyphen_at offset hyphen right
-codes_ahead (code ∷ codes) offset hyphen right = placed (Char code) offset (offset + 1) ∷ codes_ahead codes (offset + 1) hyphen right
+use Rattle.lig_kern.specs.Places.{AreAppended, Placed, PlacedConfiguration, codes_ahead, placed_after, placed_items, placed_of}
 
 -- the symbols ahead of the current one: the characters that operations put there (the last one comes first),
 -- and then those of the run
 unfoldable pub symbols_ahead : List PlacedSymbol → List ℕ → ℕ → Option ℕ → Bool → List PlacedSymbol
 symbols_ahead pending rest offset hyphen right = reverse pending ++ codes_ahead rest offset hyphen right
-
--- a symbol as an element
-abbrev pub placed_of : PlacedSymbol → Placed
-placed_of one = record { element = of_symbol one.symbol; place = one.place }
 
 -- the configuration with these elements before the current symbol, and these symbols ahead of it
 abbrev pub at : List Placed → PlacedSymbol → List PlacedSymbol → PlacedConfiguration

@@ -1,5 +1,5 @@
-ghost use Rattle.std.specs.Prelude.{◌≡◌, ◌+◌, ◌^◌, ◌<◌, ◌++◌, Bool, false, length, [], ◌∷◌, None, IfSome, MatchOption};
-ghost use Rattle.lig_kern.specs.Walking.{codes_ahead, left_at};
+ghost use Rattle.std.specs.Prelude.{◌≡◌, ◌+◌, ◌^◌, ◌<◌, Bool, false, length, [], ◌∷◌, None, IfSome, MatchOption};
+ghost use Rattle.lig_kern.specs.Places.{codes_ahead, symbols_at};
 
 use crate::placed_symbol::PlacedSymbol;
 use crate::{Ends, Symbol};
@@ -25,7 +25,7 @@ impl<'a> Beginning<'a> {
         ensures same { (stands : Bool) → MatchOption result
             ((ends.left ≡ false) × (codes.now ≡ []) × (ends.hyphen ≡ None))
             (λ run. run.first ∷ codes_ahead run.codes.now run.at run.hyphen stands
-            ≡ left_at ends.offset ends.left ++ codes_ahead codes.now ends.offset ends.hyphen stands) }
+            ≡ symbols_at codes.now ends stands) }
     {
         let at = ends.offset;
         if ends.left {

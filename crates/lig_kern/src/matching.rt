@@ -5,7 +5,7 @@ ghost use Rattle.tfm_tables.specs.Program.{step_at};
 ghost use Rattle.lig_kern.specs.Matching.{action_between, action_of, ligature_by, operation_of};
 
 use crate::{Action, Symbol};
-use tfm_tables::{Font, LeftSide, Step};
+use tfm_tables::{Font, LeftSide};
 
 /// Returns the ligature action of an op code below 128, with the code of the character that it inserts: one
 /// of the eight operations (tftopl.web, section 13), or LIG for a code that isn't among them.

@@ -1,5 +1,5 @@
 ghost use Rattle.std.specs.Prelude.{◌≡◌};
-ghost use Rattle.lig_kern.specs.Walking.{placed};
+ghost use Rattle.lig_kern.specs.Places.{placed};
 
 use crate::{Place, Symbol};
 

@@ -1,10 +1,9 @@
 //! Sets one run.
-ghost use Rattle.std.specs.Prelude.{◌≡◌, ◌+◌, ◌^◌, ◌<◌, ◌++◌, ◌&&◌, is_some, length, Err, Some, IfOk, IfSome, OnErr, MatchOption};
+ghost use Rattle.std.specs.Prelude.{◌≡◌, ◌+◌, ◌^◌, ◌<◌, length, Err, Some, IfOk, IfSome, OnErr, MatchOption};
 ghost use Rattle.tfm_words.specs.Appending.{StaysInFront};
 ghost use Rattle.tfm_tables.specs.Font.{FontValue};
-ghost use Rattle.tfm_tables.specs.Program.{program_of, right_code_of};
 ghost use Rattle.lig_kern.specs.declared.word_fault.WordFault.TheVariants.{TooManySteps as TooMany};
-ghost use Rattle.lig_kern.specs.Places.{AreAppended, placed_run, run_symbols};
+ghost use Rattle.lig_kern.specs.Places.{AreAppended, has_end, placed_run, run_symbols};
 ghost use Rattle.lig_kern.specs.Result.{HasFew, HasNoResultFrom, HasNoResultWithin, IsAppendedResult};
 
 use crate::ahead::Ahead;
@@ -17,7 +16,7 @@ use tfm_tables::Font;
 /// Returns whether the right boundary follows a run: it is requested, and the font has a right boundary
 /// character.
 fn right_stands<F: WordFont>(font: &F, right: bool) -> bool
-    ensures { (value : FontValue) → F.is_of font.now value → result ≡ (right && is_some (right_code_of (program_of value.words))) }
+    ensures { (value : FontValue) → F.is_of font.now value → result ≡ has_end value right }
 {
     right && font.right_code().is_some()
 }

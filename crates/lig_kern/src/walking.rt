@@ -5,8 +5,8 @@ ghost use Rattle.tfm_words.specs.Appending.{StaysInFront};
 ghost use Rattle.tfm_tables.specs.Font.{FontValue};
 ghost use Rattle.lig_kern.specs.declared.item.Item.TheVariants.{Kern as KernItem};
 ghost use Rattle.lig_kern.specs.declared.placed_symbol.PlacedSymbol.{PlacedSymbol as SymbolValue};
-ghost use Rattle.lig_kern.specs.Places.{before as before_place, inserted_place, kept, placed_items};
-ghost use Rattle.lig_kern.specs.Walking.{EndsAfter, HasMoved, codes_ahead, placed_of};
+ghost use Rattle.lig_kern.specs.Places.{before as before_place, codes_ahead, inserted_place, kept, placed_items, placed_of};
+ghost use Rattle.lig_kern.specs.Walking.{EndsAfter, HasMoved};
 
 use crate::ahead::Ahead;
 use crate::beginning::Beginning;
@@ -264,16 +264,14 @@ pub(crate) fn walk<F: WordFont, O: RunItem>(
         → EndsAfter O.made value (first ∷ symbols) steps_left before out.new.items steps) }
 {
     let mut current = reached.current;
-    for used in reached.steps..steps_left {
-        let Some(next) = ahead.first() else {
-            push_symbol(font, current, out)?;
-            return Ok(Some(used));
-        };
+    let mut used = reached.steps;
+    while let Some(next) = ahead.first() {
+        if used == steps_left {
+            return Ok(None);
+        }
         current = step(font, current, next, ahead, out)?;
-    }
-    if ahead.first().is_some() {
-        return Ok(None);
+        used += 1;
     }
     push_symbol(font, current, out)?;
-    Ok(Some(steps_left))
+    Ok(Some(used))
 }

@@ -1,15 +1,14 @@
 -- The outcome of a span, from what was found on the way.
-use Rattle.std.proofs.Common.{◌≡◌, ℕ, ◌-◌, ◌≤◌, List, length, map, take, drop, Some, None, arith, refl, ap, sym, ◌∙◌, length-append, length-drop}
-use Rattle.std.proofs.Math.Seq.{drop-append_seam, take-length}
+use Rattle.std.proofs.Common.{◌≡◌, ℕ, ◌-◌, ◌≤◌, List, length, map, drop, Some, None, arith, refl, ap, sym, ◌∙◌, length-append}
+use Rattle.std.proofs.Math.Seq.{drop-append_seam}
 use Rattle.std.proofs.lemmas.List.{length-map}
-use Rattle.std.specs.Prelude.{IfOk, Result, Ok, Err}
 use Rattle.std.specs.Option.{option_map}
 use Rattle.tfm_tables.specs.Font.{FontValue}
 use Rattle.lig_kern.specs.declared.item.Item.{Item}
 use Rattle.lig_kern.specs.declared.symbol.Symbol.{Symbol}
 use Rattle.lig_kern.specs.declared.place.Place.{Place}
 use Rattle.lig_kern.specs.Result.{HasNoResultFrom, result_from}
-use Rattle.lig_kern.specs.Places.{AreAppended}
+use Rattle.lig_kern.specs.Places.{AreAppended, placed_run}
 use Rattle.lig_kern.proofs.LawLemmas.{finds_result_from}
 use Rattle.lig_kern.proofs.Runs.{result_alone}
 use Rattle.set_line.specs.Width.{total_width}
@@ -20,8 +19,8 @@ use Rattle.spans.specs.declared.outcome.SpanOutcome.TheVariants.{Set, Refused}
 use Rattle.spans.specs.declared.outcome.SpanRefusal.{SpanRefusal}
 use Rattle.spans.specs.declared.outcome.SpanRefusal.TheVariants.{Steps}
 use Rattle.spans.specs.declared.placed_item.PlacedItem.{PlacedItem}
-use Rattle.spans.specs.Spans.{codes_of, outcome_of, refusal_of, set_or_refused, symbols_of_span}
-use Rattle.spans.specs.Places.{ends_of, placed, placed_codes}
+use Rattle.spans.specs.Spans.{codes_of, ends_of, outcome_of, refusal_of, set_or_refused, symbols_of_span}
+use Rattle.spans.specs.Places.{placed}
 use Rattle.spans.specs.PlaceLaws.{AreItemsBy, AreItemsOf}
 use Rattle.spans.proofs.PlaceLaws.{fills_span}
 
@@ -32,9 +31,6 @@ set_is font symbols limit size items is within width count =
     rw ((finds_result_from font symbols limit).found (record { steps = size.steps; items = items }) is within)
     (ap (λ w. Set (record { width = w; items = size.items; steps = size.steps })) width
     ∙ ap (λ n. Set (record { width = total_width items; items = n; steps = size.steps })) count)
-
-pub steps_is : (font : FontValue) (symbols : List Symbol) (limit : ℕ) → HasNoResultFrom font symbols limit → Refused Steps ≡ set_or_refused font symbols limit
-steps_is font symbols limit never = rw ((finds_result_from font symbols limit).none never) refl
 
 pub outcome_is : (font : FontValue) (text : List ℕ) (span : Span) (limit : ℕ) (outcome : SpanOutcome) → refusal_of font text span ≡ None
     → outcome ≡ set_or_refused font (symbols_of_span font text span) limit → outcome ≡ outcome_of font text span limit
@@ -48,22 +44,17 @@ refused_is font text span limit refusal some = rw some refl
 
 -- ---- what was appended
 
--- a slice from an index to the end is what is left without the items before the index
-pub rest_whole : {O : Type 0} (xs : List O) (n : ℕ) → take (length xs - n) (drop n xs) ≡ drop n xs
-rest_whole xs n = ap (λ k. take k (drop n xs)) (sym (length-drop n xs)) ∙ take-length (drop n xs)
-
 -- items that were appended, as those of a span
-pub are_items : {E : Type 0} (font : FontValue) (text : List ℕ) (span : Span) (limit : ℕ) (before after : List PlacedItem) (r : Result SpanOutcome E)
-    → IfOk r (AreItemsBy placed font text span limit before after) → IfOk r (AreItemsOf font text span before after)
-are_items font text span limit before after (Ok (Set size)) is =
+pub are_items : (font : FontValue) (text : List ℕ) (span : Span) (limit : ℕ) (before after : List PlacedItem) (outcome : SpanOutcome)
+    → AreItemsBy placed font text span limit before after outcome → AreItemsOf font text span before after outcome
+are_items font text span limit before after (Set size) is =
     record { placed = is.1.items; result = is.1.result; joined = fills_span font text span is.0 size.steps is.1.items is.1.result; appended = is.1.appended }
-are_items font text span limit before after (Ok (Refused refusal)) is = is
-are_items font text span limit before after (Err fault) is = tt
+are_items font text span limit before after (Refused refusal) is = is
 
 module _ {O : Type 0} (made : Item → Place → O) (alone : O → Item) (keeps : (item : Item) (place : Place) → alone (made item place) ≡ item)
     (font : FontValue) (text : List ℕ) (span : Span) (limit : ℕ) where
   pub placed_is : (before after : List O) (size : SpanSize) → refusal_of font text span ≡ None
-      → AreAppended made font (placed_codes font (codes_of text span) span) limit before after size.steps
+      → AreAppended made font (placed_run font (codes_of text span) (ends_of span)) limit before after size.steps
       → size.width ≡ total_width (map alone (drop (length before) after)) → size.items ≡ length after - length before
       → Set size ≡ outcome_of font text span limit
   placed_is before after size none is width count =
@@ -76,6 +67,7 @@ module _ {O : Type 0} (made : Item → Place → O) (alone : O → Item) (keeps 
 
 pub steps_are : (font : FontValue) (text : List ℕ) (span : Span) (limit : ℕ) → refusal_of font text span ≡ None
     → HasNoResultFrom font (symbols_of_span font text span) limit → Refused Steps ≡ outcome_of font text span limit
-steps_are font text span limit none never = outcome_is font text span limit (Refused Steps) none (steps_is font (symbols_of_span font text span) limit never)
+steps_are font text span limit none never =
+    outcome_is font text span limit (Refused Steps) none (rw ((finds_result_from font (symbols_of_span font text span) limit).none never) refl)
 
 pub ruleset outcomes = (outcome_is, refused_is)

@@ -1,22 +1,22 @@
 -- Proofs of the laws of the places.
-use Rattle.std.proofs.Common.{◌≡◌, ℕ, suc, zero, ◌+◌, ◌≤◌, Bool, true, false, List, [], ◌∷◌, ◌++◌, length, map, take, drop, Option, Some, None, arith, rules, refl, ap, sym, subst, append_assoc, append-nil}
+use Rattle.std.proofs.Common.{◌≡◌, ℕ, suc, zero, ◌+◌, ◌≤◌, Bool, true, false, List, [], ◌∷◌, ◌++◌, length, map, take, drop, Option, Some, None, arith, rules, refl, ap, subst}
 use Rattle.std.specs.Prelude.{if◌then◌else◌}
 use Rattle.std.specs.List.{filter_map, cons_option, slice_get}
 use Rattle.std.specs.Option.{option_and_then, option_map}
 use Rattle.tfm_tables.specs.Font.{FontValue}
+use Rattle.lig_kern.specs.declared.ends.Ends.{Ends}
 use Rattle.lig_kern.specs.declared.place.Place.{Place}
-use Rattle.lig_kern.specs.declared.symbol.Symbol.{Symbol}
 use Rattle.lig_kern.specs.declared.symbol.Symbol.TheVariants.{Left, Char, Right}
 use Rattle.lig_kern.specs.declared.action.Action.{Action}
 use Rattle.lig_kern.specs.declared.action.Action.TheVariants.{Kern, Lig}
-use Rattle.lig_kern.specs.Places.{Placed, PlacedConfiguration, all_at, characters_from, final_places, hyphen_codes, is_final, placed_after, placed_by, placed_item, placed_items, placed_run, placed_step, places_after, replaced}
-use Rattle.lig_kern.specs.Rewriting.{Element, of_symbol, of_kern, action_at, item_of, right_end}
+use Rattle.lig_kern.specs.Places.{Placed, PlacedConfiguration, codes_ahead, final_places, has_end, is_final, left_at, placed_after, placed_by, placed_item, placed_items, placed_of, placed_run, placed_step, places_after, replaced}
+use Rattle.lig_kern.specs.Rewriting.{Element, of_symbol, of_kern, action_at, item_of}
 use Rattle.lig_kern.proofs.Erasing.{erase_after}
 use Rattle.lig_kern.proofs.Runs.{result_alone}
 use Rattle.spans.specs.declared.span.Span.{Span}
 use Rattle.spans.specs.declared.placed_item.PlacedItem.{PlacedItem}
-use Rattle.spans.specs.Spans.{codes_of}
-use Rattle.spans.specs.Places.{ends_of, placed, placed_codes}
+use Rattle.spans.specs.Spans.{codes_of, ends_of}
+use Rattle.spans.specs.Places.{placed}
 use Rattle.spans.specs.PlaceLaws.{FillSpan, HasSameItems, ItemsAreJoined, WalksAlike}
 use Rattle.spans.proofs.RefusalLemmas.{code_length}
 
@@ -117,34 +117,26 @@ fill_items font low high (one ∷ elements) order =
         subst (λ k. ItemsAreJoined k (filter_map (placed_item placed font) elements) high) here rest
     by (of_kern amount) empty rest = (order.0, order.1, rest)
 
-empty_at : (symbol : Symbol) (offset : ℕ) → BoundaryIsEmpty (of_symbol symbol) (record { start = offset; end = offset })
-empty_at Left offset = refl
-empty_at (Char code) offset = tt
-empty_at Right offset = refl
-
-fill_all : (offset high : ℕ) (symbols : List Symbol) (xs : List Placed) → Fill offset xs high → Fill offset (all_at offset symbols ++ xs) high
-fill_all offset high [] xs order = order
-fill_all offset high (symbol ∷ symbols) xs order = (refl, omega arith, empty_at symbol offset, fill_all offset high symbols xs order)
-
-fill_characters : (offset high : ℕ) (codes : List ℕ) (xs : List Placed) → Fill (offset + length codes) xs high → Fill offset (characters_from offset codes ++ xs) high
-fill_characters offset high [] xs order = let none : offset + 0 ≡ offset = omega arith in rw none at order
-fill_characters offset high (code ∷ codes) xs order =
-    let further : offset + length (code ∷ codes) ≡ offset + 1 + length codes = omega arith in
-    (refl, omega arith, tt, fill_characters (offset + 1) high codes xs (rw further at order))
-
-fill_codes : (font : FontValue) (codes : List ℕ) (span : Span) → Fill span.offset (placed_codes font codes span) (span.offset + length codes)
-unfolding placed_run
-fill_codes font codes span =
-    rw (append_assoc (all_at span.offset (if span.left then Left ∷ [] else [])) (characters_from span.offset codes) (all_at last back))
-    (fill_all span.offset last (if span.left then Left ∷ [] else []) (characters_from span.offset codes ++ all_at last back)
-    (fill_characters span.offset last codes (all_at last back)
-    (rw (sym (append-nil (all_at last back))) (fill_all last last back [] refl))))
+fill_ahead : (codes : List ℕ) (offset : ℕ) (hyphen : Option ℕ) (right : Bool) → Fill offset (map placed_of (codes_ahead codes offset hyphen right)) (offset + length codes)
+fill_ahead [] offset hyphen right = let none : offset + 0 ≡ offset = omega arith in rw none (by hyphen right)
   where
-    last : ℕ
-    last = span.offset + length codes
+    by : (hyphen : Option ℕ) (right : Bool) → Fill offset (map placed_of (codes_ahead [] offset hyphen right)) offset
+    by None false = refl
+    by None true = (refl, omega arith, refl, refl)
+    by (Some code) false = (refl, omega arith, tt, refl)
+    by (Some code) true = (refl, omega arith, tt, (refl, omega arith, refl, refl))
+fill_ahead (code ∷ codes) offset hyphen right =
+    let further : offset + length (code ∷ codes) ≡ offset + 1 + length codes = omega arith in
+    (refl, omega arith, tt, rw further (fill_ahead codes (offset + 1) hyphen right))
 
-    back : List Symbol
-    back = map Char (hyphen_codes span.hyphen) ++ right_end font span.right
+fill_run : (font : FontValue) (codes : List ℕ) (ends : Ends) → Fill ends.offset (placed_run font codes ends) (ends.offset + length codes)
+unfolding placed_run
+fill_run font codes ends = by ends.left (fill_ahead codes ends.offset ends.hyphen (has_end font ends.right))
+  where
+    by : (left : Bool) → Fill ends.offset (map placed_of (codes_ahead codes ends.offset ends.hyphen (has_end font ends.right))) (ends.offset + length codes)
+        → Fill ends.offset (map placed_of (left_at ends.offset left ++ codes_ahead codes ends.offset ends.hyphen (has_end font ends.right))) (ends.offset + length codes)
+    by false order = order
+    by true order = (refl, omega arith, refl, order)
 
 -- the places of the result of elements that follow one another do so, too
 fill_result : (font : FontValue) (low high : ℕ) (elements : List Placed) (n : ℕ) (items : List PlacedItem) → Fill low elements high
@@ -169,5 +161,5 @@ fill_result font low high elements n items order is = by (placed_after font n op
 pub fills_span : (font : FontValue) (text : List ℕ) (span : Span) → FillSpan font text span
 fills_span font text span = λ within n items is.
     subst (λ high. ItemsAreJoined span.offset items high) (ap (λ k. span.offset + k) (code_length text span (codes_of text span) refl within))
-    (fill_result font span.offset (span.offset + length (codes_of text span)) (placed_codes font (codes_of text span) span) n items
-    (fill_codes font (codes_of text span) span) is)
+    (fill_result font span.offset (span.offset + length (codes_of text span)) (placed_run font (codes_of text span) (ends_of span)) n items
+    (fill_run font (codes_of text span) (ends_of span)) is)

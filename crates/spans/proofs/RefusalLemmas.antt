@@ -1,9 +1,8 @@
 -- The refusal of a span, from what was found on the way.
-use Rattle.std.proofs.Common.{◌≡◌, ℕ, ◌+◌, ◌<◌, ◌≤◌, Bool, true, false, List, [], ◌∷◌, ◌++◌, length, drop, get_or, Some, None, arith, refl, ap, sym, ◌∙◌, append-nil, length-append, length-drop}
+use Rattle.std.proofs.Common.{◌≡◌, ℕ, ◌+◌, ◌<◌, ◌≤◌, Bool, true, false, List, [], ◌∷◌, ◌++◌, length, drop, get_or, Some, None, arith, refl, ap, sym, ◌∙◌, append-nil, below_more, length-append, length-drop}
 use Rattle.std.specs.Prelude.{nat_lt, slice_index}
 use Rattle.std.specs.List.{position}
 use Rattle.std.specs.Option.{option_map}
-use Rattle.std.proofs.lemmas.Bool.{ltb-true, ltb-false}
 use Rattle.std.proofs.lemmas.List.{length-take-le}
 use Rattle.std.proofs.lemmas.List.Quantifiers.{position-Some}
 use Rattle.std.proofs.lemmas.List.Sums.{position_or_len_is}
@@ -31,15 +30,6 @@ found_none p xs before =
     let test : nat_lt (length xs) (length xs) ≡ false = grind arith in
     rw first (rw test refl)
 
--- one more element that fails a test
-pub none_more : (p : ℕ → Bool) (xs : List ℕ) (i : ℕ) → ((k : ℕ) → k < i → p (get_or xs k 0) ≡ false) → p (get_or xs i 0) ≡ false
-    → (k : ℕ) → k < i + 1 → p (get_or xs k 0) ≡ false
-none_more p xs i before here k below = by (nat_lt k i) refl
-  where
-    by : (b : Bool) → nat_lt k i ≡ b → p (get_or xs k 0) ≡ false
-    by true h = before k (ltb-true k i h)
-    by false h = let same : k ≡ i = omega (arith, ltb-false k i h) in rw same here
-
 found_in_front : (p : ℕ → Bool) (xs ys : List ℕ) (i : ℕ) → position p xs ≡ Some i → position p (xs ++ ys) ≡ Some i
 found_in_front p xs ys i is =
     let some = position-Some p xs i 0 is in
@@ -55,13 +45,9 @@ found_at_end p xs y none last =
     found_first p (xs ++ y ∷ []) (length xs) (omega (arith, length-append xs (y ∷ []))) (none_in_front p xs (y ∷ []) none) (ap p (get_or-append_seam xs y [] 0) ∙ last)
 
 nowhere_at_end : (p : ℕ → Bool) (xs : List ℕ) (y : ℕ) → position p xs ≡ None → p y ≡ false → position p (xs ++ y ∷ []) ≡ None
-nowhere_at_end p xs y none last = found_none p (xs ++ y ∷ []) (λ k within. by k within (nat_lt k (length xs)) refl)
-  where
-    by : (k : ℕ) → k < length (xs ++ y ∷ []) → (b : Bool) → nat_lt k (length xs) ≡ b → p (get_or (xs ++ y ∷ []) k 0) ≡ false
-    by k within true below = none_in_front p xs (y ∷ []) none k (ltb-true k (length xs) below)
-    by k within false above =
-        let same : k ≡ length xs = omega (arith, ltb-false k (length xs) above, length-append xs (y ∷ [])) in
-        rw same (ap p (get_or-append_seam xs y [] 0) ∙ last)
+nowhere_at_end p xs y none last = found_none p (xs ++ y ∷ []) (λ k within.
+    below_more (λ k. p (get_or (xs ++ y ∷ []) k 0) ≡ false) (length xs) (none_in_front p xs (y ∷ []) none) (ap p (get_or-append_seam xs y [] 0) ∙ last)
+    k (omega (arith, length-append xs (y ∷ []))))
 
 -- ---- the codes of a span that ends within the text
 

@@ -5,7 +5,7 @@ use Rattle.std.specs.Option.{option_map}
 use Rattle.tfm_tables.specs.Font.{FontValue}
 use Rattle.lig_kern.specs.declared.item.Item.{Item}
 use Rattle.lig_kern.specs.declared.place.Place.{Place}
-use Rattle.lig_kern.specs.Places.{PlacedConfiguration, erased, placed_after}
+use Rattle.lig_kern.specs.Places.{AreAppended, PlacedConfiguration, erased, placed_after, placed_run}
 use Rattle.lig_kern.specs.Rewriting.{after_steps}
 use Rattle.lig_kern.specs.Result.{result_from}
 use Rattle.tfm_words.specs.Appending.{StaysInFront}
@@ -13,9 +13,8 @@ use Rattle.spans.specs.declared.outcome.SpanOutcome.{SpanOutcome}
 use Rattle.spans.specs.declared.outcome.SpanOutcome.TheVariants.{Set, Refused}
 use Rattle.spans.specs.declared.span.Span.{Span}
 use Rattle.spans.specs.declared.placed_item.PlacedItem.{PlacedItem}
-use Rattle.spans.specs.Spans.{codes_of, symbols_of_span}
-use Rattle.lig_kern.specs.Places.{AreAppended}
-use Rattle.spans.specs.Places.{placed_codes, places_of}
+use Rattle.spans.specs.Spans.{codes_of, ends_of, symbols_of_span}
+use Rattle.spans.specs.Places.{places_of}
 
 -- the items alone
 abbrev pub items_alone : List PlacedItem → List Item
@@ -62,7 +61,7 @@ AreItemsOf font text span before after (Refused refusal) = after ≡ before
 -- the items of a span that was set within this limit were appended, of each of which `made` is kept
 abbrev pub AreItemsBy : {O : Type 0} → (Item → Place → O) → FontValue → List ℕ → Span → ℕ → List O → List O → SpanOutcome → Type 0
 AreItemsBy made font text span limit before after (Set size) =
-    (span.offset + span.length ≤ length text) × AreAppended made font (placed_codes font (codes_of text span) span) limit before after size.steps
+    (span.offset + span.length ≤ length text) × AreAppended made font (placed_run font (codes_of text span) (ends_of span)) limit before after size.steps
 AreItemsBy made font text span limit before after (Refused refusal) = after ≡ before
 
 -- what holds of the outcome of a span with any data in place of a font: the number of steps is within the

@@ -8,9 +8,9 @@ use Rattle.std.specs.List.{position}
 use Rattle.std.specs.Option.{option_map, option_map_or}
 use Rattle.tfm_tables.specs.Font.{FontValue}
 use Rattle.tfm_tables.specs.Character.{exists}
+use Rattle.lig_kern.specs.declared.ends.Ends.{Ends}
 use Rattle.lig_kern.specs.declared.symbol.Symbol.{Symbol}
-use Rattle.lig_kern.specs.Places.{hyphen_codes}
-use Rattle.lig_kern.specs.Rewriting.{symbols_with}
+use Rattle.lig_kern.specs.Places.{hyphen_codes, run_symbols}
 use Rattle.lig_kern.specs.Result.{Setting, result_within}
 use Rattle.set_line.specs.Width.{total_width}
 use Rattle.spans.specs.declared.span.Span.{Span}
@@ -34,9 +34,13 @@ pub record HasCodes (text : List ℕ) (span : Span) (codes : List ℕ) : Type 0 
   pub long : length codes ≡ span.length
   pub short : span.length ≤ 65535
 
--- the symbols of the run, with the boundaries that the edges state
+-- the ends of the run: the boundaries that the edges state, and the hyphen
+abbrev pub ends_of : Span → Ends
+ends_of span = record { offset = span.offset; left = span.left; hyphen = span.hyphen; right = span.right }
+
+-- the symbols of the run
 abbrev pub symbols_of_span : FontValue → List ℕ → Span → List Symbol
-symbols_of_span font text span = symbols_with font span.left (run_of text span) span.right
+symbols_of_span font text span = run_symbols font (codes_of text span) (ends_of span)
 
 -- ---- the refusals that come first
 

@@ -1,6 +1,6 @@
 use Rattle.std.proofs.Common.{◌≡◌, ◌+◌, ◌<◌, ◌≤◌, length, drop, arith, refl}
 use Rattle.tfm_words.proofs.AppendingLemmas.{front_at_once, front_through}
-use Rattle.lig_kern.specs.Walking.{codes_ahead}
+use Rattle.lig_kern.specs.Places.{codes_ahead}
 use Rattle.lig_kern.proofs.UnderWay.{code_next, moved_none, moved_on}
 use Rattle.lig_kern.proofs.walking.walk_plainly.Goals as goal
 

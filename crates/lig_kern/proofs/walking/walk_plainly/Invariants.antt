@@ -1,7 +1,8 @@
 use Rattle.std.proofs.Common.{◌+◌, ◌*◌, ◌≤◌, Bool, length, drop}
 use Rattle.tfm_tables.specs.Font.{FontValue}
 use Rattle.tfm_words.specs.Appending.{StaysInFront}
-use Rattle.lig_kern.specs.Walking.{HasMoved, codes_ahead}
+use Rattle.lig_kern.specs.Places.{codes_ahead}
+use Rattle.lig_kern.specs.Walking.{HasMoved}
 use Rattle.lig_kern.proofs.walking.walk_plainly.Given as goal
 
 abbrev pub invariant-loop-used : goal.invariant-loop-used

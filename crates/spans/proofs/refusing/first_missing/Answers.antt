@@ -1,6 +1,6 @@
-use Rattle.std.proofs.Common.{◌≡◌, true, false, get_or, length, arith, sym}
+use Rattle.std.proofs.Common.{◌≡◌, true, false, get_or, length, arith, sym, below_more}
 use Rattle.spans.specs.Spans.{is_missing}
-use Rattle.spans.proofs.RefusalLemmas.{found_first, found_none, none_more}
+use Rattle.spans.proofs.RefusalLemmas.{found_first, found_none}
 use Rattle.spans.proofs.refusing.first_missing.Goals as goal
 
 pub returns-then-not-exists-clause-first : goal.returns-then-not-exists-clause-first
@@ -9,9 +9,9 @@ returns-then-not-exists-clause-first g c = λ value is.
     sym (found_first (is_missing value) c.args.codes.now c.loop-at.at (omega arith) (c.loop-at.invariant value is) here)
 
 pub loop-at-preserved : goal.loop-at-preserved
-loop-at-preserved g c = λ value is k below.
+loop-at-preserved g c = λ value is.
     let here : is_missing value (get_or c.args.codes.now c.loop-at.at 0) ≡ false = grind (arith, c.exists.ensures value is) in
-    none_more (is_missing value) c.args.codes.now c.loop-at.at (c.loop-at.invariant value is) here k below
+    below_more _ _ (c.loop-at.invariant value is) here
 
 pub returns-clause-first : goal.returns-clause-first
 returns-clause-first g c = λ value is.
