@@ -1,7 +1,5 @@
 -- A word that is written into a list of bytes is read back, and the words before it are unchanged.
-use Rattle.std.proofs.Common.{◌≡◌, ℕ, ℤ, ◌<◌, ◌≤◌, ◌+◌, ◌*◌, ◌++◌, List, [], length, take, drop, append-nil, FitsSigned, Bool, true, false, arith, ap, refl, subst, sym, ◌∙◌}
-use Rattle.std.specs.Prelude.{nat_lt}
-use Rattle.std.proofs.lemmas.Bool.{ltb-true, ltb-false}
+use Rattle.std.proofs.Common.{◌≡◌, ℕ, ℤ, ◌<◌, ◌≤◌, ◌+◌, ◌*◌, ◌++◌, List, [], length, take, drop, append-nil, FitsSigned, arith, ap, sym, ◌∙◌}
 use Rattle.std.specs.Int.{w32, cast_signed, cast_unsigned, bytes_high_first}
 use Rattle.std.proofs.lemmas.Int.{to_z-of_z}
 use mir.ValLaws.{of_z_fits}
@@ -43,14 +41,6 @@ number_of_bytes n fits =
     ap (λ bytes. cast_signed w32 (big_number 4 bytes)) (sym (append-nil (bytes_high_first 4 (cast_unsigned w32 n))))
     ∙ ap (cast_signed w32) (big_number-reads_back 4 (cast_unsigned w32 n) [] (omega (arith, (of_z_fits w32 n fits).fits)))
     ∙ to_z-of_z w32 n fits
-
--- a property of the numbers below n, and of n itself, is one of the numbers below n + 1
-pub one_more : (P : ℕ → Type 0) (n : ℕ) → ((k : ℕ) → k < n → P k) → P n → (k : ℕ) → k < n + 1 → P k
-one_more P n each here k below = by (nat_lt k n) refl
-  where
-    by : (b : Bool) → nat_lt k n ≡ b → P k
-    by true e = each k (ltb-true k n e)
-    by false e = let same : n ≡ k = omega (arith, ltb-false k n e, below) in subst P same here
 
 -- ---- a part of a table whose words are unchanged
 

@@ -1,17 +1,14 @@
 //! A table that was opened.
 ghost use Rattle.std.specs.Prelude.{◌≡◌, ◌+◌, ◌*◌, ◌^◌, ◌<◌, ◌≤◌, ℕ, length, IfSome, MatchOption, Some};
-ghost use Rattle.std.specs.Option.{option_and_then};
 ghost use Rattle.std.specs.List.{slice_get};
 ghost use Rattle.tfm_words.specs.declared.table.Table.TheVariants.{Kern, LigKern};
 ghost use Rattle.tfm_tables.specs.declared.left_side.LeftSide.TheVariants.{Boundary, Char};
 ghost use Rattle.tfm_tables.specs.Table.{entries_of};
 ghost use Rattle.tfm_tables.specs.Font.{FontValue};
-ghost use Rattle.tfm_tables.specs.Character.{exists as exists_in};
 ghost use Rattle.tfm_tables.specs.Measure.{kern_at, parameter_of};
-ghost use Rattle.tfm_tables.specs.Program.{address_between, address_of, program_of, right_code_of, start_of, step_at};
+ghost use Rattle.tfm_tables.specs.Program.{address_between, address_of, program_of, start_of, step_at};
 ghost use Rattle.tfm_tables.specs.Acceptance.{kern_index_of};
 ghost use Rattle.lig_kern.specs.Matching.{action_between, action_of, match_of};
-ghost use Rattle.lig_kern.specs.Rewriting.{character_width};
 ghost use Rattle.prepared_font.specs.Layout.{IsPreparedFrom, IsWhole, number_at, size_in};
 
 use crate::layout::{
@@ -93,21 +90,6 @@ impl<'a> PreparedFont<'a> {
         number(self.bytes, i)
     }
 
-    /// Returns whether the font has a character with this code.
-    #[tactic(auto, unfolding(crate::specs::Layout::state_of))]
-    pub fn exists(&self, code: u8) -> bool
-        ensures { (font : FontValue) → IsPreparedFrom font self.now → result ≡ exists_in font.words code }
-    {
-        self.number(STATES + usize::from(code)) != NO_CHARACTER
-    }
-
-    /// Returns the width of a character in sp; 0 for a code without a character.
-    pub fn width(&self, code: u8) -> i32
-        ensures { (font : FontValue) → IsPreparedFrom font self.now → result ≡ character_width font code }
-    {
-        self.number(WIDTHS + usize::from(code))
-    }
-
     /// Returns the width of a space in sp: parameter 2, or 0 if the font has no parameter 2.
     pub fn space(&self) -> i32
         ensures { (font : FontValue) → IsPreparedFrom font self.now → result ≡ parameter_of font.words font.size 2 }
@@ -122,13 +104,6 @@ impl<'a> PreparedFont<'a> {
         ensures font { (font : FontValue) → IsPreparedFrom font self.now → result ≡ font.size }
     {
         u32::try_from(self.number(SIZE)).unwrap_or(0)
-    }
-
-    /// Returns the code of the right boundary character, or `None` if the font doesn't specify one.
-    pub fn right_boundary(&self) -> Option<u8>
-        ensures { (font : FontValue) → IsPreparedFrom font self.now → result ≡ right_code_of (program_of font.words) }
-    {
-        u8::try_from(self.number(RIGHT)).ok()
     }
 
     /// Returns the starting address of a character's program.
@@ -198,7 +173,7 @@ impl<'a> PreparedFont<'a> {
         let code = match right {
             Symbol::Left => return None,
             Symbol::Char(code) => code,
-            Symbol::Right => self.right_boundary()?,
+            Symbol::Right => self.right_code()?,
         };
         self.find_from(start, code)
     }
@@ -240,12 +215,13 @@ impl<'a> PreparedFont<'a> {
 impl<'a> WordFont for PreparedFont<'a> {
     ghost is_of = { λ bytes font. IsPreparedFrom font bytes };
 
+    #[tactic(auto, unfolding(crate::specs::Layout::state_of))]
     fn exists(&self, code: u8) -> bool {
-        self.exists(code)
+        self.number(STATES + usize::from(code)) != NO_CHARACTER
     }
 
     fn code_width(&self, code: u8) -> i32 {
-        self.width(code)
+        self.number(WIDTHS + usize::from(code))
     }
 
     #[tactic(auto, using(crate::proofs::ChainSteps::matched), unfolding(lig_kern::specs::Matching::action_between))]
@@ -255,6 +231,6 @@ impl<'a> WordFont for PreparedFont<'a> {
     }
 
     fn right_code(&self) -> Option<u8> {
-        self.right_boundary()
+        u8::try_from(self.number(RIGHT)).ok()
     }
 }

@@ -1,4 +1,4 @@
-use Rattle.std.proofs.Common.{◌≡◌, ℕ, ◌+◌, ◌<◌, ◌≤◌, length}
+use Rattle.std.proofs.Common.{◌≡◌, ℕ, ◌+◌, ◌<◌, length}
 use Rattle.tfm_words.specs.Word.{word_at}
 use Rattle.tfm_words.specs.declared.table.Table.TheVariants.{LigKern}
 use Rattle.tfm_tables.specs.Table.{entries_of}

@@ -1,4 +1,4 @@
-use Rattle.std.proofs.Common.{◌≡◌, ℕ, ◌+◌, ◌<◌, ◌≤◌, length}
+use Rattle.std.proofs.Common.{◌≡◌, ℕ, ◌+◌, ◌<◌, length}
 use Rattle.tfm_words.specs.Word.{word_at}
 use Rattle.prepared_font.specs.Layout.{number_at, state_of}
 use Rattle.prepared_font.proofs.preparing.put_states.Given as goal

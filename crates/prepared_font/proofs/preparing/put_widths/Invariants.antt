@@ -1,4 +1,4 @@
-use Rattle.std.proofs.Common.{◌≡◌, ℕ, ◌+◌, ◌<◌, ◌≤◌, length}
+use Rattle.std.proofs.Common.{◌≡◌, ℕ, ◌+◌, ◌<◌, length}
 use Rattle.tfm_words.specs.Word.{word_at}
 use Rattle.tfm_tables.specs.Character.{character_width_of}
 use Rattle.prepared_font.specs.Layout.{number_at}

@@ -1,4 +1,4 @@
-use Rattle.std.proofs.Common.{◌≡◌, length, ap, arith, ◌∙◌}
+use Rattle.std.proofs.Common.{◌≡◌, length, arith, ◌∙◌}
 use Rattle.prepared_font.proofs.WordLemmas.{word_here, word_before}
 use Rattle.prepared_font.proofs.putting.put_word.Goals as goal
 
