@@ -5,7 +5,7 @@
 #![tactic(auto)]
 
 pub use prepared_font::PreparedFont;
-pub use preparing::prepare;
+pub use preparing::{prepare, table_length};
 
 mod layout;
 mod prepared_font;

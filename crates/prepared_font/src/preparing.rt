@@ -5,7 +5,7 @@ ghost use Rattle.tfm_words.specs.Word.{word_at};
 ghost use Rattle.tfm_tables.specs.Table.{entries_of};
 ghost use Rattle.tfm_tables.specs.Program.{program_of, right_code_of, step_at};
 ghost use Rattle.tfm_tables.specs.Acceptance.{kern_index_of};
-ghost use Rattle.prepared_font.specs.Layout.{HasHeader, HasKerns, HasStates, HasSteps, HasWidths, IsPreparedFrom, number_of, state_of, table_length};
+ghost use Rattle.prepared_font.specs.Layout.{HasHeader, HasKerns, HasStates, HasSteps, HasWidths, IsPreparedFrom, number_of, state_of, table_length as length_of};
 
 use crate::layout::{MAGIC, NO_CHARACTER, NONE, PROGRAM, STATES, VERSION, WIDTHS};
 use crate::putting::{put, put_first, put_word};
@@ -87,7 +87,7 @@ fn put_states(font: &FontMetrics, room: &mut [u8])
 
 /// Writes the instructions.
 fn put_steps(font: &FontMetrics, room: &mut [u8])
-    requires { table_length font.now.words ≤ length room.old }
+    requires { length_of font.now.words ≤ length room.old }
     ensures long { length room.new ≡ length room.old }
     ensures steps { HasSteps font.now room.new }
     ensures kerns { (i : ℕ) → i < entries_of font.now.words LigKern → (step_at font.now.words i).skip ≤ 128 → 128 ≤ (step_at font.now.words i).op
@@ -107,7 +107,7 @@ fn put_steps(font: &FontMetrics, room: &mut [u8])
 /// Writes the kerns.
 #[tactic(auto, using(crate::proofs::WordLemmas::same_number))]
 fn put_kerns(font: &FontMetrics, room: &mut [u8])
-    requires { table_length font.now.words ≤ length room.old }
+    requires { length_of font.now.words ≤ length room.old }
     ensures long { length room.new ≡ length room.old }
     ensures kerns { HasKerns font.now room.new }
     ensures before { (k : ℕ) → k < 521 + entries_of font.now.words LigKern → word_at room.new k ≡ word_at room.old k }
@@ -120,7 +120,7 @@ fn put_kerns(font: &FontMetrics, room: &mut [u8])
 
 /// Writes the whole table, part by part in the order of the words.
 fn put_table(font: &FontMetrics, room: &mut [u8])
-    requires { table_length font.now.words ≤ length room.old }
+    requires { length_of font.now.words ≤ length room.old }
     ensures { IsPreparedFrom font.now room.new }
 {
     put_header(font, room);
@@ -130,18 +130,24 @@ fn put_table(font: &FontMetrics, room: &mut [u8])
     put_kerns(font, room);
 }
 
-/// Writes the table of a font at the beginning of `room`, and returns the number of its bytes: 2,084, and
-/// four for each instruction and for each kern. These bytes, with or without others after them, are what
-/// `PreparedFont::open` reads. It allocates no memory.
+/// Returns the number of bytes of the table of a font: 2,084, and four for each instruction and for each kern.
+pub fn table_length(font: &FontMetrics) -> usize
+    ensures { result ≡ length_of font.now.words }
+{
+    4 * (PROGRAM + font.steps() + font.kerns())
+}
+
+/// Writes the table of a font at the beginning of `room`, and returns the number of its bytes. These bytes, with
+/// or without others after them, are what `PreparedFont::open` reads. It allocates no memory.
 ///
 /// The error is that `room` is shorter; it is the number of bytes that the table needs, and `room` is
 /// unchanged.
 pub fn prepare(font: &FontMetrics, room: &mut [u8]) -> Result<usize, usize>
-    ensures used { IfOk result (λ used. used ≡ table_length font.now.words) }
+    ensures used { IfOk result (λ used. used ≡ length_of font.now.words) }
     ensures written { IfOk result (λ used. (n : ℕ) → used ≤ n → IsPreparedFrom font.now (take n room.new)) }
-    ensures short { IfErr result (λ needed. (needed ≡ table_length font.now.words) × (length room.old < needed) × (room.new ≡ room.old)) }
+    ensures short { IfErr result (λ needed. (needed ≡ length_of font.now.words) × (length room.old < needed) × (room.new ≡ room.old)) }
 {
-    let needed = 4 * (PROGRAM + font.steps() + font.kerns());
+    let needed = table_length(font);
     if room.len() < needed {
         return Err(needed);
     }

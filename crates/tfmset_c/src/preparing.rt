@@ -1,30 +1,21 @@
 //! `tfmset_prepare`, and the font of a call that sets spans.
 ghost use Rattle.std.specs.Prelude.{◌≡◌, ◌≢◌, ◌≤◌, ◌⊎◌, IfErr, IfOk, None};
-ghost use Rattle.prepared_font.specs.Layout.{IsPreparedFrom, table_length};
+ghost use Rattle.prepared_font.specs.Layout.{IsPreparedFrom};
 ghost use Rattle.tfm_tables.specs.Acceptance.{font_fault_of};
 ghost use Rattle.tfmset_c.specs.Prepared.{IsTableTold};
 ghost use Rattle.tfmset_c.specs.Reading.{IsAnswer, IsDenial, IsNoSize, font_at};
 
 use crate::arrays::{DONE, NO_ROOM};
 use crate::reading::{Denial, MOST_SIZE, RANGE, read_metrics};
-use prepared_font::prepare;
+use prepared_font::{prepare, table_length};
 use std::alloc::{AllocError, Global};
 use tfm_tables::FontMetrics;
-
-/// Returns the number of bytes of the table of a font.
-fn length_of(font: &FontMetrics) -> usize
-    ensures { result ≡ table_length font.now.words }
-{
-    match prepare(font, &mut []) {
-        Ok(length) | Err(length) => length,
-    }
-}
 
 /// Returns the table of a font. The error means that an allocation failed.
 fn make_table(alloc: Global, font: &FontMetrics) -> Result<Vec<u8>, AllocError>
     ensures { IfOk result (λ table. IsPreparedFrom font.now table.items) }
 {
-    let mut table = vec![in alloc; 0; length_of(font)]?;
+    let mut table = vec![in alloc; 0; table_length(font)]?;
     match prepare(font, &mut table) {
         Ok(_) => Ok(table),
         Err(_) => unreachable!(),
@@ -53,7 +44,7 @@ fn write_table(font: &FontMetrics, table: &mut [u8], count: &mut usize) -> u32
     ensures told { IsTableTold font.now result count.old count.new table.old table.new }
     ensures kept { result ≢ 0 → table.new ≡ table.old }
 {
-    let length = length_of(font);
+    let length = table_length(font);
     *count = length;
     if length > table.len() {
         return NO_ROOM;

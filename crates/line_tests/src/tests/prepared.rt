@@ -4,7 +4,7 @@ use super::named::Named::*;
 use super::same;
 use super::words::RUNS;
 use lig_kern::{Ends, Item, Symbol, WordFont, first_match, set_run_of};
-use prepared_font::{PreparedFont, prepare};
+use prepared_font::{PreparedFont, prepare, table_length};
 use std::process::Abort;
 use test_support::items::{A, AHEAD, B, BACK, C};
 use tfm_tables::Font;
@@ -48,7 +48,7 @@ static FONTS: [Named; 16] = [
 
 /// Returns the table of a font, in a room of exactly the length that it needs.
 fn table_of<R: Abort + AllocGlobal>(rt: &R, font: &Font) -> Vec<u8> {
-    let needed = prepare(font, &mut []).expect_err(rt, "no room");
+    let needed = table_length(font);
     let mut table = vec![in rt.alloc(); 0xA5; needed].expect(rt, "memory");
     let short = prepare(font, &mut table[1..]);
     let is_unchanged = table.iter().all(|byte| *byte == 0xA5);
