@@ -9,12 +9,12 @@ use Rattle.tfm_tables.specs.Font.{FontValue}
 use Rattle.lig_kern.specs.declared.action.Action.{Action}
 use Rattle.lig_kern.specs.declared.action.Action.TheVariants.{Kern, Lig}
 use Rattle.lig_kern.specs.declared.item.Item.{Item}
-use Rattle.lig_kern.specs.declared.place.Place.{Place}
+use Rattle.lig_kern.specs.declared.byte_range.ByteRange.{ByteRange}
 use Rattle.lig_kern.specs.Rewriting.{Configuration, Element, action_at, splice_by, spliced, step_from, after_steps, final_items, item_of, items_of}
-use Rattle.lig_kern.specs.Places.{Placed, PlacedConfiguration, elements_alone, erased, placed_by, replaced, placed_step, placed_after, placed_item, placed_items, final_places, is_final, places_after}
+use Rattle.lig_kern.specs.Places.{PlacedElement, PlacedConfiguration, elements_alone, erased, placed_by, replaced, placed_step, placed_after, placed_item, placed_items, final_places, is_final, places_after}
 use Rattle.lig_kern.proofs.Steps.{settled}
 
-erase_put : (action : Option Action) (current next : Placed) → elements_alone (placed_by action current next) ≡ (splice_by action current.element next.element).elements
+erase_put : (action : Option Action) (current next : PlacedElement) → elements_alone (placed_by action current next) ≡ (splice_by action current.element next.element).elements
 erase_put None current next = refl
 erase_put (Some (Kern amount)) current next = refl
 erase_put (Some (Lig code true true pass)) current next = refl
@@ -22,7 +22,7 @@ erase_put (Some (Lig code true false pass)) current next = refl
 erase_put (Some (Lig code false true pass)) current next = refl
 erase_put (Some (Lig code false false pass)) current next = refl
 
-erase_replaced : (c : PlacedConfiguration) (action : Option Action) (current next : Placed)
+erase_replaced : (c : PlacedConfiguration) (action : Option Action) (current next : PlacedElement)
     → erased (replaced c action current next) ≡ spliced (erased c) (splice_by action current.element next.element)
 erase_replaced c action current next = ap (λ elements. configuration elements) whole
   where
@@ -32,8 +32,8 @@ erase_replaced c action current next = ap (λ elements. configuration elements) 
     whole : elements_alone (take c.cursor c.elements ++ placed_by action current next ++ drop (c.cursor + 2) c.elements)
         ≡ take c.cursor (elements_alone c.elements) ++ (splice_by action current.element next.element).elements ++ drop (c.cursor + 2) (elements_alone c.elements)
     whole =
-        rw (take-map (λ (one : Placed). one.element) c.cursor c.elements)
-        (rw (drop-map (λ (one : Placed). one.element) (c.cursor + 2) c.elements)
+        rw (take-map (λ (one : PlacedElement). one.element) c.cursor c.elements)
+        (rw (drop-map (λ (one : PlacedElement). one.element) (c.cursor + 2) c.elements)
         (map-append (λ one. one.element) (take c.cursor c.elements ++ placed_by action current next) (drop (c.cursor + 2) c.elements)
         ∙ ap (λ front. front ++ elements_alone (drop (c.cursor + 2) c.elements))
         (map-append (λ one. one.element) (take c.cursor c.elements) (placed_by action current next)
@@ -42,11 +42,11 @@ erase_replaced c action current next = ap (λ elements. configuration elements) 
 erase_step : (font : FontValue) (c : PlacedConfiguration) → option_map erased (placed_step font c) ≡ step_from font (erased c)
 unfolding placed_step step_from
 erase_step font c =
-    rw (slice_get-map (λ (one : Placed). one.element) c.elements c.cursor)
-    (rw (slice_get-map (λ (one : Placed). one.element) c.elements (c.cursor + 1))
+    rw (slice_get-map (λ (one : PlacedElement). one.element) c.elements c.cursor)
+    (rw (slice_get-map (λ (one : PlacedElement). one.element) c.elements (c.cursor + 1))
     (by (slice_get c.elements c.cursor) (slice_get c.elements (c.cursor + 1))))
   where
-    by : (a b : Option Placed)
+    by : (a b : Option PlacedElement)
         → option_map erased (option_and_then (λ current. option_map (λ next. replaced c (action_at font current.element next.element) current next) b) a)
         ≡ option_and_then (λ current. option_map (λ next. spliced (erased c) (splice_by (action_at font current next) current next)) (option_map (λ one. one.element) b))
         (option_map (λ one. one.element) a)
@@ -54,6 +54,7 @@ erase_step font c =
     by (Some x) None = refl
     by (Some x) (Some y) = ap Some (erase_replaced c (action_at font x.element y.element) x y)
 
+-- Law: without the places, the steps are those of Rewriting, one by one
 pub erase_after : (font : FontValue) (n : ℕ) (c : PlacedConfiguration) → option_map erased (placed_after font n c) ≡ after_steps font n (erased c)
 unfolding placed_after after_steps
 erase_after font zero c = refl
@@ -66,8 +67,8 @@ erase_after font (suc n) c = by (placed_step font c) (erase_step font c) (λ d. 
     by (Some d) e onward = onward d ∙ ap (option_and_then (after_steps font n)) e
 
 -- what keeps the items keeps them with their places
-module _ {O : Type 0} (made : Item → Place → O) (alone : O → Item) (keeps : (item : Item) (place : Place) → alone (made item place) ≡ item) where
-  pub erase_items : (font : FontValue) (elements : List Placed) → map alone (placed_items made font elements) ≡ items_of font (elements_alone elements)
+module _ {O : Type 0} (made : Item → ByteRange → O) (alone : O → Item) (keeps : (item : Item) (place : ByteRange) → alone (made item place) ≡ item) where
+  pub erase_items : (font : FontValue) (elements : List PlacedElement) → map alone (placed_items made font elements) ≡ items_of font (elements_alone elements)
   unfolding placed_items items_of
   erase_items font [] = refl
   erase_items font (one ∷ elements) = by (item_of font one.element) (erase_items font elements)
@@ -79,14 +80,14 @@ module _ {O : Type 0} (made : Item → Place → O) (alone : O → Item) (keeps 
       by (Some item) rest = ap (λ first. first ∷ map alone (filter_map (placed_item made font) elements)) (keeps item one.place) ∙ ap (λ items. item ∷ items) rest
 
   erase_final : (font : FontValue) (c : PlacedConfiguration) → option_map (map alone) (final_places made font c) ≡ final_items font (erased c)
-  erase_final font c = rw (length-map c.elements (λ (one : Placed). one.element)) (by (is_final c))
+  erase_final font c = rw (length-map c.elements (λ (one : PlacedElement). one.element)) (by (is_final c))
     where
       by : (b : Bool) → option_map (map alone) (if b then Some (placed_items made font c.elements) else None) ≡ (if b then Some (items_of font (elements_alone c.elements)) else None)
       by true = ap Some (erase_items font c.elements)
       by false = refl
 
   -- the items of elements with places, after this many steps, are those of the elements without them
-  pub erase_result : (font : FontValue) (elements : List Placed) (n : ℕ)
+  pub erase_result : (font : FontValue) (elements : List PlacedElement) (n : ℕ)
       → option_map (map alone) (places_after made font elements n) ≡ settled font n (record { elements = elements_alone elements; cursor = 0 })
   unfolding places_after
   erase_result font elements n = by (placed_after font n opened) (erase_after font n opened)

@@ -14,9 +14,9 @@ use Rattle.lig_kern.specs.Rewriting.{of_symbol, of_kern, splice_by}
 use Rattle.lig_kern.proofs.Steps.{here, there, put_there}
 use Rattle.lig_kern.proofs.Within.{StaysWithin, bit, between_within}
 use Rattle.lig_kern.specs.declared.item.Item.{Item}
-use Rattle.lig_kern.specs.declared.place.Place.{Place}
+use Rattle.lig_kern.specs.declared.byte_range.ByteRange.{ByteRange}
 use Rattle.lig_kern.specs.declared.placed_symbol.PlacedSymbol.{PlacedSymbol}
-use Rattle.lig_kern.specs.Places.{Placed, PlacedConfiguration, before, inserted_place, kept, placed_after, placed_by, placed_item, placed_items, placed_of, placed_step}
+use Rattle.lig_kern.specs.Places.{PlacedElement, before, inserted_place, kept, placed_after, placed_by, placed_item, placed_items, placed_of, placed_step}
 use Rattle.lig_kern.specs.Walking.{HasMoved, at}
 
 -- the symbols ahead are the first one and the symbols after it
@@ -24,16 +24,16 @@ pub first_and_rest : (ahead : List PlacedSymbol) (next : PlacedSymbol) → slice
 first_and_rest [] next e = absurd (search rules)
 first_and_rest (x ∷ xs) next e = grind arith
 
-pub placed_items-append : {O : Type 0} (made : Item → Place → O) (font : FontValue) (xs ys : List Placed) → placed_items made font (xs ++ ys) ≡ placed_items made font xs ++ placed_items made font ys
+pub placed_items-append : {O : Type 0} (made : Item → ByteRange → O) (font : FontValue) (xs ys : List PlacedElement) → placed_items made font (xs ++ ys) ≡ placed_items made font xs ++ placed_items made font ys
 unfolding placed_items
 placed_items-append made font xs ys = filter_map-append (placed_item made font) xs ys
 
 -- a step of which the action is known
-moves : (font : FontValue) (current next : PlacedSymbol) (rest : List PlacedSymbol) (action : Option Action) (sent : List Placed) (current' : PlacedSymbol) (ahead' : List PlacedSymbol)
+moves : (font : FontValue) (current next : PlacedSymbol) (rest : List PlacedSymbol) (action : Option Action) (sent : List PlacedElement) (current' : PlacedSymbol) (ahead' : List PlacedSymbol)
     → action_between font current.symbol next.symbol ≡ action
     → placed_by action (placed_of current) (placed_of next) ++ map placed_of rest ≡ sent ++ placed_of current' ∷ map placed_of ahead'
     → (splice_by action (of_symbol current.symbol) (of_symbol next.symbol)).pass ≡ length sent
-    → (done : List Placed) → placed_step font (at done current (next ∷ rest)) ≡ Some (at (done ++ sent) current' ahead')
+    → (done : List PlacedElement) → placed_step font (at done current (next ∷ rest)) ≡ Some (at (done ++ sent) current' ahead')
 unfolding placed_step
 moves font current next rest action sent current' ahead' is put passed done =
     let elements =
@@ -42,27 +42,24 @@ moves font current next rest action sent current' ahead' is put passed done =
     rw (here done (placed_of current) (placed_of next) (map placed_of rest)) (rw (there done (placed_of current) (placed_of next) (map placed_of rest))
     (rw is (rw elements (rw cursor refl))))
 
-one_step : (font : FontValue) (c d : PlacedConfiguration) → placed_step font c ≡ Some d → placed_after font 1 c ≡ Some d
-unfolding placed_after
-one_step font c d is = ap (option_and_then (placed_after font 0)) is
-
 -- a step before a next symbol, given as the first of the symbols ahead
-moved : {O : Type 0} (made : Item → Place → O) (font : FontValue) (current next : PlacedSymbol) (ahead : List PlacedSymbol) (action : Option Action) (sent : List Placed) (current' : PlacedSymbol) (ahead' : List PlacedSymbol) (out out' : List O)
+moved : {O : Type 0} (made : Item → ByteRange → O) (font : FontValue) (current next : PlacedSymbol) (ahead : List PlacedSymbol) (action : Option Action) (sent : List PlacedElement) (current' : PlacedSymbol) (ahead' : List PlacedSymbol) (out out' : List O)
     → slice_get ahead 0 ≡ Some next → action_between font current.symbol next.symbol ≡ action
     → placed_by action (placed_of current) (placed_of next) ++ map placed_of (drop 1 ahead) ≡ sent ++ placed_of current' ∷ map placed_of ahead'
     → (splice_by action (of_symbol current.symbol) (of_symbol next.symbol)).pass ≡ length sent
     → out' ≡ out ++ placed_items made font sent → HasMoved made font 1 current ahead current' ahead' out out'
+unfolding placed_after
 moved made font current next ahead action sent current' ahead' out out' first is put passed items =
     rw (first_and_rest ahead next first)
-    (record { sent = sent; steps = λ done. one_step font _ _ (moves font current next (drop 1 ahead) action sent current' ahead' is put passed done); items = items })
+    (record { sent = sent; steps = λ done. ap (option_and_then (placed_after font 0)) (moves font current next (drop 1 ahead) action sent current' ahead' is put passed done); items = items })
 
-pub moved_plain : {O : Type 0} (made : Item → Place → O) (font : FontValue) (current next : PlacedSymbol) (ahead : List PlacedSymbol) (out out' : List O)
+pub moved_plain : {O : Type 0} (made : Item → ByteRange → O) (font : FontValue) (current next : PlacedSymbol) (ahead : List PlacedSymbol) (out out' : List O)
     → slice_get ahead 0 ≡ Some next → action_between font current.symbol next.symbol ≡ None
     → out' ≡ out ++ placed_items made font (placed_of current ∷ []) → HasMoved made font 1 current ahead next (drop 1 ahead) out out'
 moved_plain made font current next ahead out out' first is items =
     moved made font current next ahead None (placed_of current ∷ []) next (drop 1 ahead) out out' first is refl refl items
 
-pub moved_kern : {O : Type 0} (made : Item → Place → O) (font : FontValue) (current next : PlacedSymbol) (ahead : List PlacedSymbol) (amount : ℤ) (out out' : List O)
+pub moved_kern : {O : Type 0} (made : Item → ByteRange → O) (font : FontValue) (current next : PlacedSymbol) (ahead : List PlacedSymbol) (amount : ℤ) (out out' : List O)
     → slice_get ahead 0 ≡ Some next → action_between font current.symbol next.symbol ≡ Some (Kern amount)
     → out' ≡ out ++ placed_items made font (placed_of current ∷ []) ++ made (KernItem amount) (before next.place) ∷ [] → HasMoved made font 1 current ahead next (drop 1 ahead) out out'
 unfolding placed_items
@@ -71,7 +68,7 @@ moved_kern made font current next ahead amount out out' first is items =
     (items ∙ append_assoc out (placed_items made font (placed_of current ∷ [])) (made (KernItem amount) (before next.place) ∷ [])
     ∙ ap (λ more. out ++ more) (sym (placed_items-append made font (placed_of current ∷ []) (inserted ∷ []))))
   where
-    inserted : Placed
+    inserted : PlacedElement
     inserted = record { element = of_kern amount; place = before next.place }
 
 -- the character that a ligature inserts, with its place
@@ -90,7 +87,7 @@ put_is : (code : ℕ) (keep_left keep_right : Bool) (pass : ℕ) (current next :
 put_is code true keep_right pass current next ahead first = ap (λ more. placed_of current ∷ placed_of (inserted code true keep_right current next) ∷ more) (kept_ahead keep_right ahead next first)
 put_is code false keep_right pass current next ahead first = ap (λ more. placed_of (inserted code false keep_right current next) ∷ more) (kept_ahead keep_right ahead next first)
 
-module _ {O : Type 0} (made : Item → Place → O) (font : FontValue) (current next : PlacedSymbol) (ahead : List PlacedSymbol) (code : ℕ) where
+module _ {O : Type 0} (made : Item → ByteRange → O) (font : FontValue) (current next : PlacedSymbol) (ahead : List PlacedSymbol) (code : ℕ) where
   pub moved_stays : (keep_left keep_right : Bool) (pass : ℕ) (ahead' : List PlacedSymbol) (out : List O)
       → slice_get ahead 0 ≡ Some next → action_between font current.symbol next.symbol ≡ Some (Lig code keep_left keep_right pass) → pass < bit keep_left
       → ahead' ≡ inserted code keep_left keep_right current next ∷ (if keep_right then ahead else drop 1 ahead)

@@ -8,7 +8,7 @@ use Rattle.tfm_tables.specs.Font.{FontValue}
 use Rattle.tfm_tables.specs.Program.{program_of, right_code_of}
 use Rattle.lig_kern.specs.declared.ends.Ends.{Ends}
 use Rattle.lig_kern.specs.declared.item.Item.{Item}
-use Rattle.lig_kern.specs.declared.place.Place.{Place}
+use Rattle.lig_kern.specs.declared.byte_range.ByteRange.{ByteRange}
 use Rattle.lig_kern.specs.declared.placed_symbol.PlacedSymbol.{PlacedSymbol}
 use Rattle.lig_kern.specs.declared.symbol.Symbol.TheVariants.{Left, Char, Right}
 use Rattle.lig_kern.specs.Rewriting.{of_symbol, opening, right_end, symbols_with}
@@ -44,7 +44,7 @@ symbols_are font codes ends = by ends.left
     by false = codes_alone font ends.right codes ends.offset ends.hyphen
 
 -- the items of a run, after the same number of steps
-pub result_alone : {O : Type 0} (made : Item → Place → O) (alone : O → Item) → ((item : Item) (place : Place) → alone (made item place) ≡ item)
+pub result_alone : {O : Type 0} (made : Item → ByteRange → O) (alone : O → Item) → ((item : Item) (place : ByteRange) → alone (made item place) ≡ item)
     → (font : FontValue) (codes : List ℕ) (ends : Ends) (n : ℕ) → option_map (map alone) (places_after made font (placed_run font codes ends) n) ≡ result_from font (run_symbols font codes ends) n
 unfolding result_from opening placed_run
 result_alone made alone keeps font codes ends n =
@@ -54,7 +54,7 @@ result_alone made alone keeps font codes ends n =
 
 -- ---- the outcome
 
-pub run_ends : {O : Type 0} (made : Item → Place → O) (font : FontValue) (codes : List ℕ) (ends : Ends) (first : PlacedSymbol) (symbols : List PlacedSymbol) (limit : ℕ) (before after : List O)
+pub run_ends : {O : Type 0} (made : Item → ByteRange → O) (font : FontValue) (codes : List ℕ) (ends : Ends) (first : PlacedSymbol) (symbols : List PlacedSymbol) (limit : ℕ) (before after : List O)
     (steps : Option ℕ) → first ∷ symbols ≡ symbols_at codes ends (has_end font ends.right) → EndsAfter made font (first ∷ symbols) limit before after steps
     → MatchOption steps (HasNoResultFrom font (run_symbols font codes ends) limit) (AreAppended made font (placed_run font codes ends) limit before after)
 unfolding placed_run
@@ -67,7 +67,7 @@ nothing_ahead [] at hyphen right none alone last = rw alone (rw last refl)
 nothing_ahead (code ∷ codes) at hyphen right none alone last = absurd (omega arith)
 
 -- a run without a symbol but, perhaps, the right boundary has its result at once
-pub nothing_set : {O : Type 0} (made : Item → Place → O) (font : FontValue) (codes : List ℕ) (ends : Ends) (limit : ℕ) (before : List O) → ends.left ≡ false → codes ≡ [] → ends.hyphen ≡ None
+pub nothing_set : {O : Type 0} (made : Item → ByteRange → O) (font : FontValue) (codes : List ℕ) (ends : Ends) (limit : ℕ) (before : List O) → ends.left ≡ false → codes ≡ [] → ends.hyphen ≡ None
     → AreAppended made font (placed_run font codes ends) limit before before 0
 unfolding places_after placed_after placed_items placed_run
 nothing_set made font codes ends limit before left none alone =

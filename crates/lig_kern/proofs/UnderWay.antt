@@ -6,12 +6,12 @@ use Rattle.std.proofs.lemmas.List.{length-map}
 use Rattle.std.specs.Option.{option_and_then, option_map}
 use Rattle.tfm_tables.specs.Font.{FontValue}
 use Rattle.lig_kern.specs.declared.item.Item.{Item}
-use Rattle.lig_kern.specs.declared.place.Place.{Place}
+use Rattle.lig_kern.specs.declared.byte_range.ByteRange.{ByteRange}
 use Rattle.lig_kern.specs.declared.placed_symbol.PlacedSymbol.{PlacedSymbol}
 use Rattle.lig_kern.specs.declared.symbol.Symbol.TheVariants.{Char}
 use Rattle.lig_kern.specs.Rewriting.{Configuration, Element, of_symbol, opening, is_final as is_settled}
 use Rattle.lig_kern.specs.Result.{HasNoResultFrom, result_from}
-use Rattle.lig_kern.specs.Places.{AreAppended, Placed, PlacedConfiguration, codes_ahead, elements_alone, erased, final_places, is_final, placed, placed_after, placed_items, placed_of, placed_step, places_after}
+use Rattle.lig_kern.specs.Places.{AreAppended, PlacedElement, PlacedConfiguration, codes_ahead, elements_alone, erased, final_places, is_final, placed, placed_after, placed_items, placed_of, placed_step, places_after}
 use Rattle.lig_kern.specs.Walking.{HasMoved, at, symbols_alone}
 use Rattle.lig_kern.proofs.Erasing.{erase_after}
 use Rattle.lig_kern.proofs.Moves.{placed_items-append}
@@ -23,7 +23,7 @@ after_add : (font : FontValue) (n m : ℕ) (c : PlacedConfiguration) → placed_
 unfolding placed_after
 after_add font n m c = after_both (placed_step font) (placed_after font) (λ c. refl) (λ k c. refl) n m c
 
-module _ {O : Type 0} (made : Item → Place → O) (font : FontValue) where
+module _ {O : Type 0} (made : Item → ByteRange → O) (font : FontValue) where
   pub moved_none : (current : PlacedSymbol) (ahead : List PlacedSymbol) (out : List O) → HasMoved made font 0 current ahead current ahead out out
   unfolding placed_after placed_items
   moved_none current ahead out = record { sent = []; steps = λ done. ap (λ d. Some (at d current ahead)) (sym (append-nil done)); items = sym (append-nil out) }
@@ -52,11 +52,11 @@ code_next codes used at hyphen stands within =
 -- ---- the ends
 
 -- a configuration whose current symbol is the last one is final, and one with a symbol ahead of it isn't
-last_is_final : (done : List Placed) (current : PlacedSymbol) → is_final (at done current []) ≡ true
+last_is_final : (done : List PlacedElement) (current : PlacedSymbol) → is_final (at done current []) ≡ true
 last_is_final done current =
     let long : length (done ++ placed_of current ∷ []) ≡ length done + 1 = length-append done _ in grind (arith, long)
 
-isnt_final : (done : List Placed) (current x : PlacedSymbol) (rest : List PlacedSymbol) → is_settled (erased (at done current (x ∷ rest))) ≡ false
+isnt_final : (done : List PlacedElement) (current x : PlacedSymbol) (rest : List PlacedSymbol) → is_settled (erased (at done current (x ∷ rest))) ≡ false
 isnt_final done current x rest =
     let long : length (elements_alone (done ++ placed_of current ∷ placed_of x ∷ map placed_of rest)) ≡ length done + length (placed_of current ∷ placed_of x ∷ map placed_of rest) =
     length-map _ _ ∙ length-append done _ in
@@ -66,7 +66,7 @@ pub alone_are : (symbols : List PlacedSymbol) → elements_alone (map placed_of 
 alone_are [] = refl
 alone_are (one ∷ symbols) = ap (λ more. of_symbol one.symbol ∷ more) (alone_are symbols)
 
-module _ {O : Type 0} (made : Item → Place → O) (font : FontValue) (first : PlacedSymbol) (symbols : List PlacedSymbol) (used limit : ℕ) (current : PlacedSymbol) where
+module _ {O : Type 0} (made : Item → ByteRange → O) (font : FontValue) (first : PlacedSymbol) (symbols : List PlacedSymbol) (used limit : ℕ) (current : PlacedSymbol) where
   pub ends_at : (ahead : List PlacedSymbol) (before out after : List O) → HasMoved made font used first symbols current ahead before out → slice_get ahead 0 ≡ None → used ≤ limit
       → after ≡ out ++ placed_items made font (placed_of current ∷ []) → AreAppended made font (map placed_of (first ∷ symbols)) limit before after used
   unfolding places_after

@@ -12,18 +12,18 @@ use Rattle.lig_kern.specs.declared.action.Action.{Action}
 use Rattle.lig_kern.specs.declared.action.Action.TheVariants.{Kern, Lig}
 use Rattle.lig_kern.specs.declared.ends.Ends.{Ends}
 use Rattle.lig_kern.specs.declared.item.Item.{Item}
-use Rattle.lig_kern.specs.declared.place.Place.{Place}
+use Rattle.lig_kern.specs.declared.byte_range.ByteRange.{ByteRange}
 use Rattle.lig_kern.specs.declared.placed_symbol.PlacedSymbol.{PlacedSymbol}
 use Rattle.lig_kern.specs.Rewriting.{Configuration, Element, of_symbol, of_kern, action_at, splice_by, item_of, symbols_with}
 
 -- an element of a run, with the bytes that it comes from
-pub record Placed : Type 0 where
+pub record PlacedElement : Type 0 where
   pub element : Element
-  pub place : Place
+  pub place : ByteRange
 
 -- a run that is being set: its elements with their places, and the index of the current element, from 0
 pub record PlacedConfiguration : Type 0 where
-  pub elements : List Placed
+  pub elements : List PlacedElement
   pub cursor : ℕ
 
 -- ---- the run before its first step
@@ -58,11 +58,11 @@ abbrev pub has_end : FontValue → Bool → Bool
 has_end font right = right && is_some (right_code_of (program_of font.words))
 
 -- a symbol as an element
-abbrev pub placed_of : PlacedSymbol → Placed
+abbrev pub placed_of : PlacedSymbol → PlacedElement
 placed_of one = record { element = of_symbol one.symbol; place = one.place }
 
 -- the elements of a run of these codes with these ends
-unfoldable pub placed_run : FontValue → List ℕ → Ends → List Placed
+unfoldable pub placed_run : FontValue → List ℕ → Ends → List PlacedElement
 placed_run font codes ends = map placed_of (symbols_at codes ends (has_end font ends.right))
 
 -- the hyphen code alone, and nothing if there is none
@@ -76,26 +76,26 @@ run_symbols font codes ends = symbols_with font ends.left (codes ++ hyphen_codes
 -- ---- a step
 
 -- the empty range before a place
-abbrev pub before : Place → Place
+abbrev pub before : ByteRange → ByteRange
 before next = record { start = next.start; end = next.start }
 
 -- the place of a character that a ligature inserts between two neighbours, which it keeps or deletes: from
 -- the start of the first one that it deletes to the end of the last one, and if it deletes none, the empty
 -- range before the right one
-abbrev pub inserted_place : Bool → Bool → Place → Place → Place
+abbrev pub inserted_place : Bool → Bool → ByteRange → ByteRange → ByteRange
 inserted_place false false current next = record { start = current.start; end = next.end }
 inserted_place false true current next = current
 inserted_place true false current next = next
 inserted_place true true current next = before next
 
 -- the element alone if it is kept, and nothing if it is deleted
-abbrev pub kept : Bool → Placed → List Placed
+abbrev pub kept : Bool → PlacedElement → List PlacedElement
 kept true one = one ∷ []
 kept false one = []
 
 -- the elements that an action puts in the place of two neighbours, which keep their places; a kern comes from
 -- the empty range before the right neighbour
-abbrev pub placed_by : Option Action → Placed → Placed → List Placed
+abbrev pub placed_by : Option Action → PlacedElement → PlacedElement → List PlacedElement
 placed_by None current next = current ∷ next ∷ []
 placed_by (Some (Kern amount)) current next = current ∷ record { element = of_kern amount; place = before next.place } ∷ next ∷ []
 placed_by (Some (Lig code keep_left keep_right pass)) current next =
@@ -105,7 +105,7 @@ placed_by (Some (Lig code keep_left keep_right pass)) current next =
 
 -- the configuration in which an action replaces the current element and the next one; the cursor passes as
 -- many elements as in the rewriting without places
-abbrev pub replaced : PlacedConfiguration → Option Action → Placed → Placed → PlacedConfiguration
+abbrev pub replaced : PlacedConfiguration → Option Action → PlacedElement → PlacedElement → PlacedConfiguration
 replaced c action current next = record {
   elements = take c.cursor c.elements ++ placed_by action current next ++ drop (c.cursor + 2) c.elements;
   cursor = c.cursor + (splice_by action current.element next.element).pass;
@@ -126,11 +126,11 @@ placed_after font (suc n) c = option_and_then (placed_after font n) (placed_step
 -- ---- the result, of items that keep what `made` makes of an item and its place
 
 -- what is kept of the item of an element; a boundary has none
-abbrev pub placed_item : {O : Type 0} → (Item → Place → O) → FontValue → Placed → Option O
+abbrev pub placed_item : {O : Type 0} → (Item → ByteRange → O) → FontValue → PlacedElement → Option O
 placed_item made font one = option_map (λ item. made item one.place) (item_of font one.element)
 
 -- the items of a list of elements
-unfoldable pub placed_items : {O : Type 0} → (Item → Place → O) → FontValue → List Placed → List O
+unfoldable pub placed_items : {O : Type 0} → (Item → ByteRange → O) → FontValue → List PlacedElement → List O
 placed_items made font elements = filter_map (placed_item made font) elements
 
 -- a configuration is final if no element follows the current one; a list without elements is final
@@ -138,15 +138,15 @@ abbrev pub is_final : PlacedConfiguration → Bool
 is_final c = nat_le (length c.elements) (c.cursor + 1)
 
 -- the items of a final configuration; none for any other configuration
-abbrev pub final_places : {O : Type 0} → (Item → Place → O) → FontValue → PlacedConfiguration → Option (List O)
+abbrev pub final_places : {O : Type 0} → (Item → ByteRange → O) → FontValue → PlacedConfiguration → Option (List O)
 final_places made font c = if is_final c then Some (placed_items made font c.elements) else None
 
 -- the items of a list of elements if exactly this many steps lead to a final configuration, and none otherwise
-unfoldable pub places_after : {O : Type 0} → (Item → Place → O) → FontValue → List Placed → ℕ → Option (List O)
+unfoldable pub places_after : {O : Type 0} → (Item → ByteRange → O) → FontValue → List PlacedElement → ℕ → Option (List O)
 places_after made font elements n = option_and_then (final_places made font) (placed_after font n (record { elements = elements; cursor = 0 }))
 
 -- a list of elements has a result after this many steps, no more than the limit, and its items were appended
-pub record AreAppended {O : Type 0} (made : Item → Place → O) (font : FontValue) (elements : List Placed) (limit : ℕ) (before after : List O) (steps : ℕ) : Type 0 where
+pub record AreAppended {O : Type 0} (made : Item → ByteRange → O) (font : FontValue) (elements : List PlacedElement) (limit : ℕ) (before after : List O) (steps : ℕ) : Type 0 where
   pub items : List O
   pub result : places_after made font elements steps ≡ Some items
   pub within : steps ≤ limit
@@ -155,7 +155,7 @@ pub record AreAppended {O : Type 0} (made : Item → Place → O) (font : FontVa
 -- ---- without the places
 
 -- elements without their places
-abbrev pub elements_alone : List Placed → List Element
+abbrev pub elements_alone : List PlacedElement → List Element
 elements_alone elements = map (λ one. one.element) elements
 
 -- a configuration without the places

@@ -55,17 +55,12 @@ result_within font symbols limit =
 abbrev pub result_of : FontValue → List ℕ → Bool → ℕ → Option Setting
 result_of font run right = result_within font (symbols_of font run right)
 
--- a list of symbols has a result with this many steps, no more than the limit, and its items were appended to
--- a list
-pub record IsAppendedFrom (font : FontValue) (symbols : List Symbol) (limit : ℕ) (before after : List Item) (steps : ℕ) : Type 0 where
+-- the run has a result with this many steps, no more than the limit, and its items were appended to a list
+pub record IsAppendedResult (font : FontValue) (run : List ℕ) (right : Bool) (limit : ℕ) (before after : List Item) (steps : ℕ) : Type 0 where
   pub items : List Item
-  pub result : result_from font symbols steps ≡ Some items
+  pub result : result_after font run right steps ≡ Some items
   pub within : steps ≤ limit
   pub appended : after ≡ before ++ items
-
--- the run has a result with this many steps, no more than the limit, and its items were appended to a list
-abbrev pub IsAppendedResult : FontValue → List ℕ → Bool → ℕ → List Item → List Item → ℕ → Type 0
-IsAppendedResult font run right = IsAppendedFrom font (symbols_of font run right)
 
 -- a run with this many steps, no more than the limit, appended at most two items for each step, and one more
 pub record HasFew {O : Type 0} (steps limit : ℕ) (before after : List O) : Type 0 where

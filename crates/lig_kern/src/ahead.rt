@@ -13,7 +13,7 @@ use std::marker::Model;
 /// there (`pending`, whose last one is the next symbol), the codes of the run that are left, the hyphen, and
 /// the right boundary if `right` is true.
 #[derive(Drop)]
-pub(crate) struct Ahead<'a> {
+pub(crate) struct SymbolsAhead<'a> {
     pending: SmallVec<PlacedSymbol, 4>,
     /// The codes that are left.
     rest: &'a [u8],
@@ -23,7 +23,7 @@ pub(crate) struct Ahead<'a> {
     right: bool,
 }
 
-impl<'a> Model for Ahead<'a> {
+impl<'a> Model for SymbolsAhead<'a> {
     ghost use Rattle.std.specs.Prelude.{List, length, ◌+◌, ◌<◌, ◌^◌};
     ghost use Rattle.lig_kern.specs.declared.placed_symbol.PlacedSymbol.{PlacedSymbol};
     ghost use Rattle.lig_kern.specs.Walking.{symbols_ahead};
@@ -35,7 +35,7 @@ impl<'a> Model for Ahead<'a> {
     ghost invariant = { λ a. a.at + length a.rest.now < 2 ^ 64 };
 }
 
-impl<'a> Ahead<'a> {
+impl<'a> SymbolsAhead<'a> {
     /// Returns codes, of which the first is at this offset of a text, as the symbols ahead, followed by the
     /// hyphen and, if `right` is true, by the right boundary. `alloc` provides the memory for characters that
     /// are put ahead later.
@@ -46,11 +46,11 @@ impl<'a> Ahead<'a> {
         at: usize,
         hyphen: Option<u8>,
         right: bool,
-    ) -> Ahead<'a>
+    ) -> SymbolsAhead<'a>
         requires { at + length codes.now < 2 ^ 64 }
         ensures { result ≡ symbols_ahead [] codes.now at hyphen right }
     {
-        Ahead {
+        SymbolsAhead {
             pending: SmallVec::new(alloc),
             rest: codes,
             at,

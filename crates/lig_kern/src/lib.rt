@@ -4,10 +4,10 @@
 #![tactic(auto)]
 
 pub use action::Action;
+pub use byte_range::ByteRange;
 pub use ends::Ends;
 pub use item::Item;
 pub use matching::{first_match, ligature};
-pub use place::Place;
 pub use plainly::{Plain, plain_action};
 pub use run_item::RunItem;
 pub use setting::{set_run_of, set_word};
@@ -18,10 +18,10 @@ pub use word_font::WordFont;
 mod action;
 mod ahead;
 mod beginning;
+mod byte_range;
 mod ends;
 mod item;
 mod matching;
-mod place;
 mod placed_symbol;
 mod plainly;
 mod run_item;

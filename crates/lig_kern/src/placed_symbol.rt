@@ -1,13 +1,13 @@
 ghost use Rattle.std.specs.Prelude.{◌≡◌};
 ghost use Rattle.lig_kern.specs.Places.{placed};
 
-use crate::{Place, Symbol};
+use crate::{ByteRange, Symbol};
 
 /// A symbol of a run, with the bytes of the text that it comes from.
 #[derive(Clone, Copy)]
 pub(crate) struct PlacedSymbol {
     pub symbol: Symbol,
-    pub place: Place,
+    pub place: ByteRange,
 }
 
 impl PlacedSymbol {
@@ -15,7 +15,7 @@ impl PlacedSymbol {
     pub fn new(symbol: Symbol, start: usize, end: usize) -> Self
         ensures { result ≡ placed symbol start end }
     {
-        let place = Place { start, end };
+        let place = ByteRange { start, end };
         PlacedSymbol { symbol, place }
     }
 }

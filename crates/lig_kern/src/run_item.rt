@@ -1,28 +1,28 @@
 ghost use Rattle.std.specs.Prelude.{◌≡◌};
 
-use crate::{Item, Place};
+use crate::{ByteRange, Item};
 
 /// An item of the result of a run: an [`Item`] alone, or one that keeps the bytes of the text from which it
 /// comes.
 pub trait RunItem: Copy {
     ghost use Rattle.lig_kern.specs.declared.item.Item.{Item as ItemValue};
-    ghost use Rattle.lig_kern.specs.declared.place.Place.{Place as PlaceValue};
+    ghost use Rattle.lig_kern.specs.declared.byte_range.ByteRange.{ByteRange as RangeValue};
 
     /// What is kept of an item that comes from these bytes.
-    ghost made: { ItemValue → PlaceValue → Self };
+    ghost made: { ItemValue → RangeValue → Self };
 
     /// The item alone.
     ghost alone: { Self → ItemValue };
 
     /// Returns what is kept of an item that comes from these bytes.
-    fn new(item: Item, place: Place) -> Self
+    fn new(item: Item, place: ByteRange) -> Self
         ensures { result ≡ made item place };
 
     /// Returns the item alone.
     fn item(self) -> Item
         ensures { result ≡ alone self };
 
-    ghost keeps: { (item : ItemValue) (place : PlaceValue) → alone (made item place) ≡ item };
+    ghost keeps: { (item : ItemValue) (place : RangeValue) → alone (made item place) ≡ item };
 }
 
 impl RunItem for Item {
@@ -34,7 +34,7 @@ impl RunItem for Item {
 
     ghost keeps = { λ item place. refl };
 
-    fn new(item: Item, _place: Place) -> Self {
+    fn new(item: Item, _place: ByteRange) -> Self {
         item
     }
 

@@ -6,7 +6,7 @@ ghost use Rattle.lig_kern.specs.declared.word_fault.WordFault.TheVariants.{TooMa
 ghost use Rattle.lig_kern.specs.Places.{AreAppended, has_end, placed_run, run_symbols};
 ghost use Rattle.lig_kern.specs.Result.{HasFew, HasNoResultFrom, HasNoResultWithin, IsAppendedResult};
 
-use crate::ahead::Ahead;
+use crate::ahead::SymbolsAhead;
 use crate::beginning::Beginning;
 use crate::walking::{push_symbol, walk, walk_plainly};
 use crate::{Ends, Item, RunItem, WordFault, WordFont};
@@ -48,7 +48,7 @@ fn run_steps<F: WordFont, O: RunItem>(
         push_symbol(font, reached.current, out)?;
         return Ok(Some(reached.steps));
     }
-    let mut ahead = Ahead::new(
+    let mut ahead = SymbolsAhead::new(
         *out.allocator(),
         &beginning.codes[passed..],
         beginning.at + passed,

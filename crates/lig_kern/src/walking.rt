@@ -8,17 +8,17 @@ ghost use Rattle.lig_kern.specs.declared.placed_symbol.PlacedSymbol.{PlacedSymbo
 ghost use Rattle.lig_kern.specs.Places.{before as before_place, codes_ahead, inserted_place, kept, placed_items, placed_of};
 ghost use Rattle.lig_kern.specs.Walking.{EndsAfter, HasMoved};
 
-use crate::ahead::Ahead;
+use crate::ahead::SymbolsAhead;
 use crate::beginning::Beginning;
 use crate::placed_symbol::PlacedSymbol;
-use crate::{Action, Item, Place, Plain, RunItem, Symbol, WordFont, plain_action};
+use crate::{Action, ByteRange, Item, Plain, RunItem, Symbol, WordFont, plain_action};
 use std::alloc::AllocError;
 
 /// Returns the empty place before another one.
-fn before(next: Place) -> Place
+fn before(next: ByteRange) -> ByteRange
     ensures { result ≡ before_place next }
 {
-    Place {
+    ByteRange {
         start: next.start,
         end: next.start,
     }
@@ -26,11 +26,11 @@ fn before(next: Place) -> Place
 
 /// Returns the place of a character that a ligature inserts between two neighbours, which it keeps or
 /// deletes.
-fn inserted(keep_left: bool, keep_right: bool, current: Place, next: Place) -> Place
+fn inserted(keep_left: bool, keep_right: bool, current: ByteRange, next: ByteRange) -> ByteRange
     ensures { result ≡ inserted_place keep_left keep_right current next }
 {
     match (keep_left, keep_right) {
-        (false, false) => Place {
+        (false, false) => ByteRange {
             start: current.start,
             end: next.end,
         },
@@ -86,7 +86,7 @@ fn push_with_kern<F: WordFont, O: RunItem>(
     font: &F,
     one: PlacedSymbol,
     amount: i32,
-    next: Place,
+    next: ByteRange,
     out: &mut Vec<O>,
 ) -> Result<(), AllocError>
     ensures few { OnOk result (length out.new.items ≤ length out.old.items + 2) }
@@ -108,7 +108,7 @@ fn step<F: WordFont, O: RunItem>(
     font: &F,
     current: PlacedSymbol,
     next: PlacedSymbol,
-    ahead: &mut Ahead<'_>,
+    ahead: &mut SymbolsAhead<'_>,
     out: &mut Vec<O>,
 ) -> Result<PlacedSymbol, AllocError>
     requires { slice_get ahead.now 0 ≡ Some next }
@@ -193,7 +193,7 @@ fn plain_step<F: WordFont, O: RunItem>(
 
 /// How far the setting of a run has come: the number of steps made, and the symbol that is current.
 #[derive(Clone, Copy)]
-pub(crate) struct Progress {
+pub(crate) struct RunState {
     pub steps: u32,
     pub current: PlacedSymbol,
 }
@@ -207,7 +207,7 @@ pub(crate) fn walk_plainly<F: WordFont, O: RunItem>(
     run: Beginning<'_>,
     steps_left: u32,
     out: &mut Vec<O>,
-) -> Result<Progress, AllocError>
+) -> Result<RunState, AllocError>
     requires { run.at + length run.codes.now < 2 ^ 64 }
     ensures within { IfOk result (λ reached.
         (reached.steps ≤ steps_left) × (reached.steps ≤ length run.entry.codes.now)) }
@@ -229,7 +229,7 @@ pub(crate) fn walk_plainly<F: WordFont, O: RunItem>(
         let next = PlacedSymbol::new(Symbol::Char(run.codes[used as usize]), at, at + 1);
         match plain_step(font, current, next, out)? {
             None => {
-                return Ok(Progress {
+                return Ok(RunState {
                     steps: used,
                     current,
                 });
@@ -237,7 +237,7 @@ pub(crate) fn walk_plainly<F: WordFont, O: RunItem>(
             Some(after) => current = after,
         }
     }
-    Ok(Progress {
+    Ok(RunState {
         steps: most,
         current,
     })
@@ -249,8 +249,8 @@ pub(crate) fn walk_plainly<F: WordFont, O: RunItem>(
 #[tactic(auto, using(tfm_words::proofs::AppendingLemmas::fronts))]
 pub(crate) fn walk<F: WordFont, O: RunItem>(
     font: &F,
-    reached: Progress,
-    ahead: &mut Ahead<'_>,
+    reached: RunState,
+    ahead: &mut SymbolsAhead<'_>,
     steps_left: u32,
     out: &mut Vec<O>,
 ) -> Result<Option<u32>, AllocError>

@@ -1,13 +1,12 @@
 -- The outcome of a span, from what was found on the way.
-use Rattle.std.proofs.Common.{◌≡◌, ℕ, ◌-◌, ◌≤◌, List, length, map, drop, Some, None, arith, refl, ap, sym, ◌∙◌, length-append}
+use Rattle.std.proofs.Common.{◌≡◌, ℕ, ◌-◌, List, length, map, drop, Some, None, arith, refl, ap, sym, ◌∙◌, length-append}
 use Rattle.std.proofs.Math.Seq.{drop-append_seam}
 use Rattle.std.proofs.lemmas.List.{length-map}
 use Rattle.std.specs.Option.{option_map}
 use Rattle.tfm_tables.specs.Font.{FontValue}
 use Rattle.lig_kern.specs.declared.item.Item.{Item}
-use Rattle.lig_kern.specs.declared.symbol.Symbol.{Symbol}
-use Rattle.lig_kern.specs.declared.place.Place.{Place}
-use Rattle.lig_kern.specs.Result.{HasNoResultFrom, result_from}
+use Rattle.lig_kern.specs.declared.byte_range.ByteRange.{ByteRange}
+use Rattle.lig_kern.specs.Result.{HasNoResultFrom}
 use Rattle.lig_kern.specs.Places.{AreAppended, placed_run}
 use Rattle.lig_kern.proofs.LawLemmas.{finds_result_from}
 use Rattle.lig_kern.proofs.Runs.{result_alone}
@@ -23,14 +22,6 @@ use Rattle.spans.specs.Spans.{codes_of, ends_of, outcome_of, refusal_of, set_or_
 use Rattle.spans.specs.Places.{placed}
 use Rattle.spans.specs.PlaceLaws.{AreItemsBy, AreItemsOf}
 use Rattle.spans.proofs.PlaceLaws.{fills_span}
-
-pub set_is : (font : FontValue) (symbols : List Symbol) (limit : ℕ) (size : SpanSize) (items : List Item)
-    → result_from font symbols size.steps ≡ Some items → size.steps ≤ limit → size.width ≡ total_width items → size.items ≡ length items
-    → Set size ≡ set_or_refused font symbols limit
-set_is font symbols limit size items is within width count =
-    rw ((finds_result_from font symbols limit).found (record { steps = size.steps; items = items }) is within)
-    (ap (λ w. Set (record { width = w; items = size.items; steps = size.steps })) width
-    ∙ ap (λ n. Set (record { width = total_width items; items = n; steps = size.steps })) count)
 
 pub outcome_is : (font : FontValue) (text : List ℕ) (span : Span) (limit : ℕ) (outcome : SpanOutcome) → refusal_of font text span ≡ None
     → outcome ≡ set_or_refused font (symbols_of_span font text span) limit → outcome ≡ outcome_of font text span limit
@@ -51,7 +42,7 @@ are_items font text span limit before after (Set size) is =
     record { placed = is.1.items; result = is.1.result; joined = fills_span font text span is.0 size.steps is.1.items is.1.result; appended = is.1.appended }
 are_items font text span limit before after (Refused refusal) is = is
 
-module _ {O : Type 0} (made : Item → Place → O) (alone : O → Item) (keeps : (item : Item) (place : Place) → alone (made item place) ≡ item)
+module _ {O : Type 0} (made : Item → ByteRange → O) (alone : O → Item) (keeps : (item : Item) (place : ByteRange) → alone (made item place) ≡ item)
     (font : FontValue) (text : List ℕ) (span : Span) (limit : ℕ) where
   pub placed_is : (before after : List O) (size : SpanSize) → refusal_of font text span ≡ None
       → AreAppended made font (placed_run font (codes_of text span) (ends_of span)) limit before after size.steps
@@ -59,11 +50,12 @@ module _ {O : Type 0} (made : Item → Place → O) (alone : O → Item) (keeps 
       → Set size ≡ outcome_of font text span limit
   placed_is before after size none is width count =
       let part : drop (length before) after ≡ is.items = ap (drop (length before)) is.appended ∙ drop-append_seam before is.items in
+      let count' : size.items ≡ length (map alone is.items) = omega (arith, length-map is.items alone, length-append before is.items, ap length is.appended) in
       outcome_is font text span limit (Set size) none
-      (set_is font (symbols_of_span font text span) limit size (map alone is.items)
-      (sym (result_alone made alone keeps font (codes_of text span) (ends_of span) size.steps) ∙ ap (option_map (map alone)) is.result)
-      is.within (width ∙ ap (λ xs. total_width (map alone xs)) part)
-      (omega (arith, length-map is.items alone, length-append before is.items, ap length is.appended)))
+      (rw ((finds_result_from font (symbols_of_span font text span) limit).found (record { steps = size.steps; items = map alone is.items })
+      (sym (result_alone made alone keeps font (codes_of text span) (ends_of span) size.steps) ∙ ap (option_map (map alone)) is.result) is.within)
+      (ap (λ w. Set (record { width = w; items = size.items; steps = size.steps })) (width ∙ ap (λ xs. total_width (map alone xs)) part)
+      ∙ ap (λ n. Set (record { width = total_width (map alone is.items); items = n; steps = size.steps })) count'))
 
 pub steps_are : (font : FontValue) (text : List ℕ) (span : Span) (limit : ℕ) → refusal_of font text span ≡ None
     → HasNoResultFrom font (symbols_of_span font text span) limit → Refused Steps ≡ outcome_of font text span limit

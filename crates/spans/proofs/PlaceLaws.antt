@@ -5,26 +5,21 @@ use Rattle.std.specs.List.{filter_map, cons_option, slice_get}
 use Rattle.std.specs.Option.{option_and_then, option_map}
 use Rattle.tfm_tables.specs.Font.{FontValue}
 use Rattle.lig_kern.specs.declared.ends.Ends.{Ends}
-use Rattle.lig_kern.specs.declared.place.Place.{Place}
+use Rattle.lig_kern.specs.declared.byte_range.ByteRange.{ByteRange}
 use Rattle.lig_kern.specs.declared.symbol.Symbol.TheVariants.{Left, Char, Right}
 use Rattle.lig_kern.specs.declared.action.Action.{Action}
 use Rattle.lig_kern.specs.declared.action.Action.TheVariants.{Kern, Lig}
-use Rattle.lig_kern.specs.Places.{Placed, PlacedConfiguration, codes_ahead, final_places, has_end, is_final, left_at, placed_after, placed_by, placed_item, placed_items, placed_of, placed_run, placed_step, places_after, replaced}
+use Rattle.lig_kern.specs.Places.{PlacedElement, PlacedConfiguration, codes_ahead, final_places, has_end, is_final, left_at, placed_after, placed_by, placed_item, placed_items, placed_of, placed_run, placed_step, places_after, replaced}
 use Rattle.lig_kern.specs.Rewriting.{Element, of_symbol, of_kern, action_at, item_of}
-use Rattle.lig_kern.proofs.Erasing.{erase_after}
 use Rattle.lig_kern.proofs.Runs.{result_alone}
 use Rattle.spans.specs.declared.span.Span.{Span}
 use Rattle.spans.specs.declared.placed_item.PlacedItem.{PlacedItem}
 use Rattle.spans.specs.Spans.{codes_of, ends_of}
 use Rattle.spans.specs.Places.{placed}
-use Rattle.spans.specs.PlaceLaws.{FillSpan, HasSameItems, ItemsAreJoined, WalksAlike}
+use Rattle.spans.specs.PlaceLaws.{FillSpan, HasSameItems, ItemsAreJoined}
 use Rattle.spans.proofs.RefusalLemmas.{code_length}
 
 -- ---- without the places
-
--- Law: without the places, the steps are those of the rewriting of lig_kern, one by one
-pub walks_alike : (font : FontValue) (c : PlacedConfiguration) → WalksAlike font c
-walks_alike font c = λ n. erase_after font n c
 
 -- Law: without the places, the items of a span are those of its run, after the same number of steps
 pub has_same_items : (font : FontValue) (text : List ℕ) (span : Span) → HasSameItems font text span
@@ -34,19 +29,19 @@ has_same_items font text span = λ n.
 -- ---- the order of the places
 
 -- the place of a boundary is empty
-abbrev BoundaryIsEmpty : Element → Place → Type 0
+abbrev BoundaryIsEmpty : Element → ByteRange → Type 0
 BoundaryIsEmpty (of_symbol Left) place = place.start ≡ place.end
 BoundaryIsEmpty (of_symbol (Char code)) place = Unit {0}
 BoundaryIsEmpty (of_symbol Right) place = place.start ≡ place.end
 BoundaryIsEmpty (of_kern amount) place = Unit {0}
 
 -- elements whose places follow one another, with those of the boundaries empty
-abbrev Fill : ℕ → List Placed → ℕ → Type 0
+abbrev Fill : ℕ → List PlacedElement → ℕ → Type 0
 Fill low [] high = low ≡ high
 Fill low (one ∷ rest) high =
     (one.place.start ≡ low) × (one.place.start ≤ one.place.end) × BoundaryIsEmpty one.element one.place × Fill one.place.end rest high
 
-fill_put : (low high : ℕ) (action : Option Action) (x y : Placed) (rest : List Placed)
+fill_put : (low high : ℕ) (action : Option Action) (x y : PlacedElement) (rest : List PlacedElement)
     → Fill low (x ∷ y ∷ rest) high → Fill low (placed_by action x y ++ rest) high
 fill_put low high None x y rest order = order
 fill_put low high (Some (Kern amount)) x y rest order =
@@ -58,7 +53,7 @@ fill_put low high (Some (Lig code false true pass)) x y rest order = (order.0, o
 fill_put low high (Some (Lig code false false pass)) x y rest order =
     (order.0, omega (arith, order.1, order.3.0, order.3.1), tt, order.3.3)
 
-fill_replaced : (low high : ℕ) (action : Option Action) (k : ℕ) (xs : List Placed) (x y : Placed) → slice_get xs k ≡ Some x → slice_get xs (k + 1) ≡ Some y
+fill_replaced : (low high : ℕ) (action : Option Action) (k : ℕ) (xs : List PlacedElement) (x y : PlacedElement) → slice_get xs k ≡ Some x → slice_get xs (k + 1) ≡ Some y
     → Fill low xs high → Fill low (take k xs ++ placed_by action x y ++ drop (k + 2) xs) high
 fill_replaced low high action zero [] x y here there order = absurd (search rules)
 fill_replaced low high action zero (a ∷ []) x y here there order = absurd (search rules)
@@ -76,7 +71,7 @@ fill_step : (font : FontValue) (low high : ℕ) (c d : PlacedConfiguration) → 
 unfolding placed_step
 fill_step font low high c d is order = by (slice_get c.elements c.cursor) refl (slice_get c.elements (c.cursor + 1)) refl is
   where
-    by : (a : Option Placed) → slice_get c.elements c.cursor ≡ a → (b : Option Placed) → slice_get c.elements (c.cursor + 1) ≡ b
+    by : (a : Option PlacedElement) → slice_get c.elements c.cursor ≡ a → (b : Option PlacedElement) → slice_get c.elements (c.cursor + 1) ≡ b
         → option_and_then (λ current. option_map (λ next. replaced c (action_at font current.element next.element) current next) b) a ≡ Some d
         → Fill low d.elements high
     by None here b there e = absurd (cc)
@@ -100,7 +95,7 @@ fill_after font low high (suc n) c d is order = by (placed_step font c) refl is 
     by (Some next) e e' onward = onward next e' (fill_step font low high c next e order)
 
 -- without the boundaries, which have empty places, the places still follow one another
-fill_items : (font : FontValue) (low high : ℕ) (elements : List Placed) → Fill low elements high → ItemsAreJoined low (placed_items placed font elements) high
+fill_items : (font : FontValue) (low high : ℕ) (elements : List PlacedElement) → Fill low elements high → ItemsAreJoined low (placed_items placed font elements) high
 unfolding placed_items
 fill_items font low high [] order = order
 fill_items font low high (one ∷ elements) order =
@@ -139,7 +134,7 @@ fill_run font codes ends = by ends.left (fill_ahead codes ends.offset ends.hyphe
     by true order = (refl, omega arith, refl, order)
 
 -- the places of the result of elements that follow one another do so, too
-fill_result : (font : FontValue) (low high : ℕ) (elements : List Placed) (n : ℕ) (items : List PlacedItem) → Fill low elements high
+fill_result : (font : FontValue) (low high : ℕ) (elements : List PlacedElement) (n : ℕ) (items : List PlacedItem) → Fill low elements high
     → places_after placed font elements n ≡ Some items → ItemsAreJoined low items high
 unfolding places_after
 fill_result font low high elements n items order is = by (placed_after font n opened) refl is

@@ -4,9 +4,8 @@ use Rattle.std.specs.Prelude.{⊤, ◌≡◌, ℕ, ◌+◌, ◌*◌, ◌≤◌, 
 use Rattle.std.specs.Option.{option_map}
 use Rattle.tfm_tables.specs.Font.{FontValue}
 use Rattle.lig_kern.specs.declared.item.Item.{Item}
-use Rattle.lig_kern.specs.declared.place.Place.{Place}
-use Rattle.lig_kern.specs.Places.{AreAppended, PlacedConfiguration, erased, placed_after, placed_run}
-use Rattle.lig_kern.specs.Rewriting.{after_steps}
+use Rattle.lig_kern.specs.declared.byte_range.ByteRange.{ByteRange}
+use Rattle.lig_kern.specs.Places.{AreAppended, placed_run}
 use Rattle.lig_kern.specs.Result.{result_from}
 use Rattle.tfm_words.specs.Appending.{StaysInFront}
 use Rattle.spans.specs.declared.outcome.SpanOutcome.{SpanOutcome}
@@ -16,22 +15,14 @@ use Rattle.spans.specs.declared.placed_item.PlacedItem.{PlacedItem}
 use Rattle.spans.specs.Spans.{codes_of, ends_of, symbols_of_span}
 use Rattle.spans.specs.Places.{places_of}
 
--- the items alone
-abbrev pub items_alone : List PlacedItem → List Item
-items_alone placed = map (λ one. one.item) placed
-
--- without the places, the steps are those of the rewriting of lig_kern, one by one
-abbrev pub WalksAlike : FontValue → PlacedConfiguration → Type 0
-WalksAlike font c = (n : ℕ) → option_map erased (placed_after font n c) ≡ after_steps font n (erased c)
-
 -- without the places, the items of a span are those of its run, after the same number of steps
 abbrev pub HasSameItems : FontValue → List ℕ → Span → Type 0
 HasSameItems font text span =
-    (n : ℕ) → option_map items_alone (places_of font text span n) ≡ result_from font (symbols_of_span font text span) n
+    (n : ℕ) → option_map (map (λ one. one.item)) (places_of font text span n) ≡ result_from font (symbols_of_span font text span) n
 
 -- places that follow one another from `low` to `high`: each byte there is in exactly one of them, and their
 -- starts never decrease
-abbrev pub AreJoined : ℕ → List Place → ℕ → Type 0
+abbrev pub AreJoined : ℕ → List ByteRange → ℕ → Type 0
 AreJoined low [] high = low ≡ high
 AreJoined low (place ∷ places) high = (place.start ≡ low) × (place.start ≤ place.end) × AreJoined place.end places high
 
@@ -59,7 +50,7 @@ AreItemsOf font text span before after (Set size) = ArePlaced font text span bef
 AreItemsOf font text span before after (Refused refusal) = after ≡ before
 
 -- the items of a span that was set within this limit were appended, of each of which `made` is kept
-abbrev pub AreItemsBy : {O : Type 0} → (Item → Place → O) → FontValue → List ℕ → Span → ℕ → List O → List O → SpanOutcome → Type 0
+abbrev pub AreItemsBy : {O : Type 0} → (Item → ByteRange → O) → FontValue → List ℕ → Span → ℕ → List O → List O → SpanOutcome → Type 0
 AreItemsBy made font text span limit before after (Set size) =
     (span.offset + span.length ≤ length text) × AreAppended made font (placed_run font (codes_of text span) (ends_of span)) limit before after size.steps
 AreItemsBy made font text span limit before after (Refused refusal) = after ≡ before

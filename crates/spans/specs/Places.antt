@@ -3,14 +3,14 @@
 use Rattle.std.specs.Prelude.{ℕ, List, Option}
 use Rattle.tfm_tables.specs.Font.{FontValue}
 use Rattle.lig_kern.specs.declared.item.Item.{Item}
-use Rattle.lig_kern.specs.declared.place.Place.{Place}
+use Rattle.lig_kern.specs.declared.byte_range.ByteRange.{ByteRange}
 use Rattle.lig_kern.specs.Places.{placed_run, places_after}
 use Rattle.spans.specs.declared.span.Span.{Span}
 use Rattle.spans.specs.declared.placed_item.PlacedItem.{PlacedItem}
 use Rattle.spans.specs.Spans.{codes_of, ends_of}
 
 -- an item with the bytes that it comes from
-abbrev pub placed : Item → Place → PlacedItem
+abbrev pub placed : Item → ByteRange → PlacedItem
 placed item place = record { item = item; place = place }
 
 -- the items of a span with their places, if exactly this many steps lead to them

@@ -6,7 +6,7 @@
 //! the items of a span, each with the bytes of the text that it comes from.
 #![tactic(auto)]
 
-pub use lig_kern::Place;
+pub use lig_kern::ByteRange;
 pub use outcome::{SpanOutcome, SpanRefusal, SpanSize};
 pub use placed_item::PlacedItem;
 pub use refusing::MOST_CODES;

@@ -1,4 +1,4 @@
-use lig_kern::{Item, Place, RunItem};
+use lig_kern::{ByteRange, Item, RunItem};
 
 /// An item of a span, with the bytes of the text that it comes from.
 #[derive(Clone, Copy, Debug, PartialEq, Eq)]
@@ -7,7 +7,7 @@ pub struct PlacedItem {
     pub item: Item,
     /// The bytes that it comes from, which are none for a kern, for the hyphen, and for a character that a ligature
     /// operation inserts without deleting any, or in place of only a boundary or the hyphen.
-    pub place: Place,
+    pub place: ByteRange,
 }
 
 impl RunItem for PlacedItem {
@@ -19,7 +19,7 @@ impl RunItem for PlacedItem {
 
     ghost keeps = { λ item place. refl };
 
-    fn new(item: Item, place: Place) -> Self {
+    fn new(item: Item, place: ByteRange) -> Self {
         PlacedItem { item, place }
     }
 

@@ -8,7 +8,9 @@ use super::slow::slow_place;
 use lig_kern::Item;
 use set_line::{Limit, OutOfMemory};
 use spans::SpanRefusal::{Outside, Steps, TooLong};
-use spans::{Place, PlacedItem, Span, SpanOutcome, SpanRefusal, SpanSetter, SpanSize, place_span};
+use spans::{
+    ByteRange, PlacedItem, Span, SpanOutcome, SpanRefusal, SpanSetter, SpanSize, place_span,
+};
 use std::process::Abort;
 use test_support::items::{A, AHEAD, B, BACK, C as C_ITEM};
 use tfm_tables::{Font, FontMetrics};
@@ -282,7 +284,7 @@ fn sets_span<R: Abort + AllocGlobal>(rt: &R, row: &Row) {
 }
 
 fn placed((item, (start, end)): Part) -> PlacedItem {
-    let place = Place { start, end };
+    let place = ByteRange { start, end };
     PlacedItem { item, place }
 }
 

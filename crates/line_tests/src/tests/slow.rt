@@ -3,7 +3,7 @@
 //! searched for one after the other. It uses the instructions, kerns, widths and starts of the crate
 //! `tfm_tables`.
 use lig_kern::Item;
-use spans::{Place, PlacedItem, Span};
+use spans::{ByteRange, PlacedItem, Span};
 use std::process::Abort;
 use tfm_tables::{Font, LeftSide, Step};
 
@@ -34,12 +34,12 @@ impl Element {
 #[derive(Clone, Copy)]
 struct Placed {
     element: Element,
-    place: Place,
+    place: ByteRange,
 }
 
 impl Placed {
     fn new(element: Element, start: usize, end: usize) -> Self {
-        let place = Place { start, end };
+        let place = ByteRange { start, end };
         Placed { element, place }
     }
 }

@@ -1,4 +1,4 @@
-use Rattle.std.proofs.Common.{◌≡◌, false, Some, arith, length-drop, sym, ◌∙◌}
+use Rattle.std.proofs.Common.{◌≡◌, ◌+◌, false, Some, drop, arith, length-drop, sym, ◌∙◌}
 use Rattle.std.proofs.lemmas.List.{take_rest}
 use Rattle.std.proofs.lemmas.Result.{IfOk-weaker}
 use Rattle.lig_kern.specs.Places.{codes_ahead, has_end}
@@ -18,11 +18,13 @@ returns-then-not-stands-clause-ended g c = λ value is.
     let last : c.right_stands-stands.result ≡ false = grind arith in
     let run = c.in-Some.beginning in
     let symbols = codes_ahead run.codes.now run.at run.hyphen right in
+    let rest = drop c.in_ok-reached.reached.steps run.codes.now in
+    let ahead = codes_ahead rest (run.at + c.in_ok-reached.reached.steps) run.hyphen right in
     run_ends g.O.RunItem.made value c.args.codes.now c.args.ends run.first symbols c.args.steps_left c.args.out.now.items c.push_symbol.new.out.items
     (Some c.in_ok-reached.reached.steps) (c.in-Some.ensures.same right)
-    (ends_at g.O.RunItem.made value run.first symbols c.in_ok-reached.reached.steps c.args.steps_left c.in_ok-reached.reached.current _
+    (ends_at g.O.RunItem.made value run.first symbols c.in_ok-reached.reached.steps c.args.steps_left c.in_ok-reached.reached.current ahead
     c.args.out.now.items c.walk_plainly.new.out.items c.push_symbol.new.out.items (c.in_ok-reached.ensures.moved value is right)
-    (nothing_ahead _ _ run.hyphen right (omega (arith, length-drop c.in_ok-reached.reached.steps run.codes.now)) (grind arith)
+    (nothing_ahead rest _ run.hyphen right (omega (arith, length-drop c.in_ok-reached.reached.steps run.codes.now)) (grind arith)
     (sym (c.right_stands-stands.ensures value is) ∙ last))
     c.in_ok-reached.ensures.within.0 (c.in_ok-push_symbol.ensures.sent value is))
 
