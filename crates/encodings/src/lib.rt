@@ -7,7 +7,7 @@ pub use encoding::Encoding;
 pub use lines::{EncodeFault, encode_line, utf8_fault};
 pub use lookup::codes_of;
 pub use parts::{Part, Parts};
-pub use places::{Place, Places, first_uncoded};
+pub use places::{Place, Places};
 pub use texts::codes_in_text;
 pub use vector::Vector;
 

@@ -1,16 +1,14 @@
 //! The characters of a line, with their places.
 ghost use Rattle.std.specs.Prelude.{◌≡◌, ◌≤◌, true, false, length, MatchOption};
-ghost use Rattle.std.specs.Option.{is_none};
 ghost use Rattle.std.specs.Str.{is_utf8};
-ghost use Rattle.encodings.specs.Codes.{codes_of as codes_in};
 ghost use Rattle.encodings.specs.Decoding.{IsTextOf, begins_with_mark};
-ghost use Rattle.encodings.specs.Lines.{first_uncoded as first_uncoded_in, places_of};
+ghost use Rattle.encodings.specs.Lines.{places_of};
 ghost use Rattle.encodings.specs.Texts.{IsKeptFront};
 
 use crate::cutting::split_first;
 use crate::tables::single_codes;
 use crate::texts::kept_len;
-use crate::{Encoding, codes_of};
+use crate::Encoding;
 use std::marker::Model;
 use std::str;
 
@@ -112,23 +110,4 @@ impl<'a> Iterator for Places<'a> {
         self.offset = offset + character.len_utf8();
         Some(Place { offset, character })
     }
-}
-
-/// Returns whether a character has no codes in an encoding.
-fn is_uncoded(encoding: Encoding, character: char) -> bool
-    ensures { result ≡ is_none (codes_in encoding.entry character) }
-{
-    codes_of(encoding, character).is_none()
-}
-
-/// Returns the first of these characters that has no codes in an encoding, or `None` if all have codes.
-pub fn first_uncoded(encoding: Encoding, places: Places<'_>) -> Option<Place>
-    ensures { result ≡ first_uncoded_in encoding.entry places.entry }
-{
-    for place in places {
-        if is_uncoded(encoding, place.character) {
-            return Some(place);
-        }
-    }
-    None
 }

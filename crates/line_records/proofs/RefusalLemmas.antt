@@ -1,22 +1,22 @@
 -- The refusals that are known before a line is set.
 use Rattle.std.proofs.Common.{◌≡◌, ℕ, ◌<◌, ◌≤◌, length, le-ltb, lt-ltb, Bool, true, false, List, [], ◌∷◌, map, flat_map, Option, Some, None, refl, ap, sym, ◌∙◌}
-use Rattle.std.specs.Prelude.{cond, if◌then◌else◌}
+use Rattle.std.specs.Prelude.{cond, if◌then◌else◌, is_some}
 use Rattle.std.specs.Str.{is_utf8}
 use Rattle.std.specs.Str.Lossy.{utf8_valid_len}
 use Rattle.std.specs.List.{find}
-use Rattle.std.specs.Option.{is_none, option_map, option_or, unwrap_or}
+use Rattle.std.specs.Option.{option_map, option_or, unwrap_or}
 use Rattle.std.proofs.lemmas.List.Folds.{find-append}
 use Rattle.run_plan.specs.declared.policy.Policy.TheVariants.{Refuse}
 use Rattle.tfm_tables.specs.Font.{FontValue}
-use Rattle.set_line.specs.declared.outcome.LineRefusal.{LineRefusal}
 use Rattle.set_line.specs.declared.outcome.LineRefusal.TheVariants.{Missing, TooLong}
+use Rattle.set_line.specs.declared.records.text_refusal.TextRefusal.{TextRefusal}
 use Rattle.set_line.specs.declared.records.text_refusal.TextRefusal.TheVariants.{Line, NotUtf8, Uncoded}
 use Rattle.set_line.specs.Terms.{TermsValue}
 use Rattle.set_line.specs.Pieces.{is_neither}
 use Rattle.encodings.specs.declared.encoding.Encoding.{Encoding}
 use Rattle.encodings.specs.declared.places.Place.{Place}
 use Rattle.encodings.specs.Codes.{codes_of}
-use Rattle.encodings.specs.Lines.{Element, elements_at, elements_of, fault_in, first_uncoded, places_of}
+use Rattle.encodings.specs.Lines.{Element, elements_at, elements_of, fault_in, places_of}
 use Rattle.line_records.specs.Results.{missing_at, missing_code_in, uncoded_in, utf8_refusal}
 
 -- ---- character by character
@@ -41,56 +41,49 @@ missing_here font encoding place rest codes is =
     ∙ ap (λ o. option_or (find p (map (element place) (unwrap_or o []))) (missing_at font encoding rest)) is
     ∙ ap (λ o. option_or o (missing_at font encoding rest)) (find_mapped p (element place) codes)
 
--- the first character has a code that is missing
-pub missing_first : (font : FontValue) (encoding : Encoding) (places : List Place) (place : Place) (rest : List Place) (codes : List ℕ) (code : ℕ)
-    → places ≡ place ∷ rest → codes_of encoding place.character ≡ Some codes → find (is_neither font) codes ≡ Some code
-    → missing_at font encoding places ≡ Some (element place code)
-missing_first font encoding places place rest codes code cut is found = rw cut (rw (missing_here font encoding place rest codes is) (rw found refl))
+-- the refusal for the first missing code of the first character, or else of a later one
+missing_either : (place : Place) (found : Option ℕ) (later : Option Element)
+    → option_map (λ (e : Element). Line (Missing e.offset e.number)) (option_or (option_map (element place) found) later)
+    ≡ option_or (option_map (λ code. Line (Missing place.offset code)) found) (option_map (λ (e : Element). Line (Missing e.offset e.number)) later)
+missing_either place None later = refl
+missing_either place (Some code) later = refl
 
--- it has none
-pub missing_later : (font : FontValue) (encoding : Encoding) (places : List Place) (place : Place) (rest : List Place) (codes : List ℕ)
-    → places ≡ place ∷ rest → codes_of encoding place.character ≡ Some codes → find (is_neither font) codes ≡ None
-    → missing_at font encoding places ≡ missing_at font encoding rest
-missing_later font encoding places place rest codes cut is found = rw cut (rw (missing_here font encoding place rest codes is) (rw found refl))
+-- the refusal of characters, if this one was found in front of them for a missing code
+abbrev pub refusal_after : FontValue → Encoding → Option TextRefusal → List Place → Option TextRefusal
+refusal_after font encoding missing places =
+    option_or (uncoded_in Refuse encoding places) (option_or missing (missing_code_in Refuse font (flat_map (elements_at encoding) places)))
 
--- a character in front of which none is without codes has codes itself
-pub coded_first : (encoding : Encoding) (places : List Place) (place : Place) (rest : List Place) → first_uncoded encoding places ≡ None → places ≡ place ∷ rest
-    → is_none (codes_of encoding place.character) ≡ false
-coded_first encoding places place rest none cut = by (is_none (codes_of encoding place.character)) (rw cut at none)
-  where
-    by : (b : Bool) → cond b (Some place) (first_uncoded encoding rest) ≡ None → b ≡ false
-    by true none = cc
-    by false none = refl
+-- the first character has no codes
+pub uncoded_here : (font : FontValue) (encoding : Encoding) (missing : Option TextRefusal) (places : List Place) (place : Place) (rest : List Place)
+    → places ≡ place ∷ rest → codes_of encoding place.character ≡ None
+    → refusal_after font encoding missing places ≡ Some (Uncoded place.offset place.character)
+uncoded_here font encoding missing places place rest cut none = rw (cut, none) refl
 
-pub coded_later : (encoding : Encoding) (places : List Place) (place : Place) (rest : List Place) → first_uncoded encoding places ≡ None → places ≡ place ∷ rest
-    → first_uncoded encoding rest ≡ None
-coded_later encoding places place rest none cut = by (is_none (codes_of encoding place.character)) (rw cut at none)
-  where
-    by : (b : Bool) → cond b (Some place) (first_uncoded encoding rest) ≡ None → first_uncoded encoding rest ≡ None
-    by true none = cc
-    by false none = none
+-- it has codes, and no missing code was found before
+pub missing_next : (font : FontValue) (encoding : Encoding) (missing found : Option TextRefusal) (places : List Place) (place : Place) (rest : List Place) (codes : List ℕ)
+    → places ≡ place ∷ rest → codes_of encoding place.character ≡ Some codes → is_some missing ≡ false
+    → found ≡ option_map (λ code. Line (Missing place.offset code)) (find (is_neither font) codes)
+    → refusal_after font encoding missing places ≡ refusal_after font encoding found rest
+missing_next font encoding (Some missing) found places place rest codes cut is none same = cc
+missing_next font encoding None found places place rest codes cut is none same =
+    let later : missing_code_in Refuse font (flat_map (elements_at encoding) (place ∷ rest)) ≡ option_or found (missing_code_in Refuse font (flat_map (elements_at encoding) rest)) =
+    ap (option_map (λ (e : Element). Line (Missing e.offset e.number))) (missing_here font encoding place rest codes is)
+    ∙ missing_either place (find (is_neither font) codes) (missing_at font encoding rest)
+    ∙ ap (λ o. option_or o (missing_code_in Refuse font (flat_map (elements_at encoding) rest))) (sym same) in
+    rw (cut, later, is) refl
 
-pub ruleset steps = (missing_first, missing_later, coded_first, coded_later)
+-- it has codes, and a missing code was found before
+pub found_before : (font : FontValue) (encoding : Encoding) (missing : TextRefusal) (places : List Place) (place : Place) (rest : List Place) (codes : List ℕ)
+    → places ≡ place ∷ rest → codes_of encoding place.character ≡ Some codes
+    → refusal_after font encoding (Some missing) places ≡ refusal_after font encoding (Some missing) rest
+found_before font encoding missing places place rest codes cut is = rw (cut, is) refl
 
--- ---- both refusals
+-- no character is left
+pub none_left : (font : FontValue) (encoding : Encoding) (missing : Option TextRefusal) (places : List Place) → places ≡ [] → refusal_after font encoding missing places ≡ missing
+none_left font encoding None places none = rw none refl
+none_left font encoding (Some missing) places none = rw none refl
 
-pub uncoded_first : (font : FontValue) (encoding : Encoding) (places : List Place) (place : Place) → first_uncoded encoding places ≡ Some place
-    → Some (Uncoded place.offset place.character)
-    ≡ option_or (uncoded_in Refuse encoding places) (missing_code_in Refuse font (flat_map (elements_at encoding) places))
-uncoded_first font encoding places place found = rw found refl
-
-pub then_missing : (font : FontValue) (encoding : Encoding) (places : List Place) (missing : Option LineRefusal) → first_uncoded encoding places ≡ None
-    → missing ≡ option_map (λ (e : Element). Missing e.offset e.number) (missing_at font encoding places)
-    → option_map Line missing
-    ≡ option_or (uncoded_in Refuse encoding places) (missing_code_in Refuse font (flat_map (elements_at encoding) places))
-then_missing font encoding places missing none is = rw none (rw is (by (missing_at font encoding places)))
-  where
-    by : (o : Option Element) → option_map Line (option_map (λ (e : Element). Missing e.offset e.number) o)
-        ≡ option_map (λ (e : Element). Line (Missing e.offset e.number)) o
-    by None = refl
-    by (Some e) = refl
-
-pub ruleset known = (uncoded_first, then_missing)
+pub ruleset steps = (uncoded_here, found_before, none_left)
 
 -- ---- the whole line
 
@@ -120,4 +113,9 @@ is_decoded line none = by (is_utf8 line) none
     by true none = refl
     by false none = cc
 
-pub ruleset refusals = (long, not_utf8, refusal_left, is_decoded)
+-- a line that is UTF-8 has no such place
+pub no_fault : (line : List ℕ) → is_utf8 line ≡ true → fault_in line ≡ None
+unfolding fault_in
+no_fault line is = rw is refl
+
+pub ruleset refusals = (long, not_utf8, refusal_left, is_decoded, no_fault)

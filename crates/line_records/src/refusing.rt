@@ -1,16 +1,16 @@
 //! The refusals that are known before a line is set. Finding them needs no memory.
-ghost use Rattle.std.specs.Prelude.{◌≡◌, true, false, None, Some, flat_map};
+ghost use Rattle.std.specs.Prelude.{◌≡◌, flat_map};
 ghost use Rattle.std.specs.List.{find};
-ghost use Rattle.std.specs.Option.{is_none, option_map, option_or};
+ghost use Rattle.std.specs.Option.{option_map, option_or};
 ghost use Rattle.run_plan.specs.declared.policy.Policy.TheVariants.{Refuse as RefusePolicy};
 ghost use Rattle.set_line.specs.declared.outcome.LineRefusal.TheVariants.{Missing};
+ghost use Rattle.set_line.specs.declared.records.text_refusal.TextRefusal.TheVariants.{Line};
 ghost use Rattle.set_line.specs.Pieces.{is_neither as is_neither_in};
-ghost use Rattle.encodings.specs.Codes.{codes_of as codes_in};
-ghost use Rattle.encodings.specs.Lines.{elements_at, first_uncoded as first_uncoded_in};
-ghost use Rattle.line_records.specs.Results.{missing_at, missing_code_in, refusal_in, uncoded_in, utf8_refusal};
+ghost use Rattle.encodings.specs.Lines.{elements_at};
+ghost use Rattle.line_records.specs.Results.{missing_code_in, refusal_in, uncoded_in, utf8_refusal};
 
 use crate::{RecordOf, SourceLine};
-use encodings::{Encoding, Place, Places, codes_of, first_uncoded, utf8_fault};
+use encodings::{Encoding, Place, Places, codes_of, utf8_fault};
 use set_line::{LineRefusal, MOST_BYTES, Policy, Terms, TextRefusal};
 use tfm_tables::Font;
 
@@ -28,53 +28,32 @@ fn first_missing_code(font: &Font, codes: &[u8]) -> Option<u8>
     codes.iter().copied().find(|code| is_neither(font, *code))
 }
 
-/// Returns the codes of a character that has codes.
-fn codes_at(encoding: Encoding, character: char) -> &'static [u8]
-    requires { is_none (codes_in encoding character) ≡ false }
-    ensures { codes_in encoding.entry character ≡ Some result.now }
+/// Returns the refusal for the first missing code among those of the character at an offset.
+fn missing_code(font: &Font, offset: usize, codes: &[u8]) -> Option<TextRefusal>
+    ensures { result ≡ option_map (λ code. Line (Missing offset code)) (find (is_neither_in font.now) codes.now) }
 {
-    match codes_of(encoding, character) {
-        Some(codes) => codes,
-        None => unreachable!(),
-    }
+    let code = first_missing_code(font, codes)?;
+    Some(TextRefusal::Line(LineRefusal::Missing { offset, code }))
 }
 
-/// Returns the refusal for the first code of these characters that is neither a space nor a character of the
-/// font.
+/// Returns the refusal of a line with these characters, if missing characters are refused. A character without codes
+/// comes before a code that isn't a character of the font, also if it is behind it in the line.
 #[tactic(auto, using(crate::proofs::RefusalLemmas::steps))]
-fn first_missing(font: &Font, encoding: Encoding, places: Places<'_>) -> Option<LineRefusal>
-    requires { first_uncoded_in encoding places ≡ None }
-    ensures { result ≡ option_map (λ element. Missing element.offset element.number)
-        (missing_at font.now encoding.entry places.entry) }
-{
-    for place in places {
-        let codes = codes_at(encoding, place.character);
-        if let Some(code) = first_missing_code(font, codes) {
-            let offset = place.offset;
-            return Some(LineRefusal::Missing { offset, code });
-        }
-    }
-    None
-}
-
-/// Returns the refusal of a line with these characters, which are passed twice, if missing characters are
-/// refused.
-#[tactic(auto, using(crate::proofs::RefusalLemmas::known))]
-fn refusal_of(
-    font: &Font,
-    encoding: Encoding,
-    places: Places<'_>,
-    again: Places<'_>,
-) -> Option<TextRefusal>
-    requires { again ≡ places }
+fn refusal_of(font: &Font, encoding: Encoding, places: Places<'_>) -> Option<TextRefusal>
     ensures { result ≡ option_or (uncoded_in RefusePolicy encoding.entry places.entry)
         (missing_code_in RefusePolicy font.now (flat_map (elements_at encoding.entry) places.entry)) }
 {
-    if let Some(Place { offset, character }) = first_uncoded(encoding, places) {
-        return Some(TextRefusal::Uncoded { offset, character });
+    let mut missing = None;
+    for place in places {
+        let Place { offset, character } = place;
+        let Some(codes) = codes_of(encoding, character) else {
+            return Some(TextRefusal::Uncoded { offset, character });
+        };
+        if missing.is_none() {
+            missing = missing_code(font, offset, codes);
+        }
     }
-    let missing = first_missing(font, encoding, again)?;
-    Some(TextRefusal::Line(missing))
+    missing
 }
 
 /// Returns the refusal of a line in UTF-8 that is known before it is set.
@@ -85,15 +64,13 @@ fn find_in_text(terms: &Terms, encoding: Encoding, line: SourceLine<'_>) -> Opti
     if line.bytes.len() > MOST_BYTES {
         return Some(TextRefusal::Line(LineRefusal::TooLong(line.bytes.len())));
     }
-    if let Some(offset) = utf8_fault(line.bytes) {
-        return Some(TextRefusal::NotUtf8(offset));
+    let Some(places) = Places::of_line(line.first, line.bytes) else {
+        return Some(TextRefusal::NotUtf8(utf8_fault(line.bytes)?));
+    };
+    match terms.policy() {
+        Policy::Refuse => refusal_of(terms.font(), encoding, places),
+        Policy::Skip => None,
     }
-    if terms.policy() == Policy::Skip {
-        return None;
-    }
-    let places = Places::of_line(line.first, line.bytes)?;
-    let again = Places::of_line(line.first, line.bytes)?;
-    refusal_of(terms.font(), encoding, places, again)
 }
 
 /// Returns the refusal of a line that is known before it is set.
