@@ -10,7 +10,6 @@ use Rattle.std.proofs.lemmas.List.{map-append, take_more}
 use Rattle.std.proofs.lemmas.List.Sums.{count_by-le-length, fold-append, sum_by-append}
 use Rattle.run_plan.specs.declared.policy.Policy.{Policy}
 use Rattle.run_plan.specs.declared.policy.Policy.TheVariants.{Refuse, Skip}
-use Rattle.tfm_words.proofs.AppendingLemmas.{front_at_once, front_of_append, front_through}
 use Rattle.tfm_tables.specs.Character.{exists}
 use Rattle.tfm_tables.specs.Font.{FontValue}
 use Rattle.tfm_tables.specs.Measure.{parameter_of}
@@ -41,7 +40,7 @@ next_largest f codes i d so_far within is =
 
 -- ---- texts
 
-pub ruleset boxes = (front_at_once, front_of_append, front_through, to_z-of_z, append_assoc)
+pub ruleset boxes = (to_z-of_z, append_assoc)
 
 pub record_pushed : {T E : Type 0} (r : Result T E) (source place : ℕ) (text before a b c d after : List ℕ) → a ≡ before ++ [] ++ decimal source
     → b ≡ a ++ codes ":" ++ decimal place → c ≡ b ++ codes " box" → d ≡ c ++ text → after ≡ (if is_ok r then d ++ codes "\n" else d)

@@ -1,5 +1,5 @@
 -- A line that is written up to a byte, and the next byte.
-use Rattle.std.proofs.Common.{◌≡◌, ℕ, suc, ◌+◌, ◌^◌, ◌<◌, ◌≤◌, pos, ◌+ℤ◌, ◌≤ℤ◌, true, false, List, [], ◌∷◌, ◌++◌, length, take, drop, drop-cons, get_or, flat_map, Option, Some, None, arith, refl, ap, sym, subst, ◌∙◌, append_assoc, length-append}
+use Rattle.std.proofs.Common.{◌≡◌, ℕ, suc, ◌+◌, ◌<◌, ◌≤◌, pos, ◌+ℤ◌, true, false, List, [], ◌∷◌, ◌++◌, length, take, drop, drop-cons, get_or, flat_map, Option, Some, None, arith, refl, ap, sym, subst, ◌∙◌, append_assoc, length-append}
 use Rattle.std.specs.Prelude.{◌==◌, IfSome}
 use Rattle.std.proofs.Math.Seq.{take-append_seam}
 use Rattle.std.specs.List.{count_by}
@@ -18,7 +18,7 @@ use Rattle.set_line.specs.Width.{total_width}
 use Rattle.line_records.specs.Additions.{Addition, added_of, after, alone, byte_added, ending_of, set_from}
 use Rattle.line_records.specs.Boxes.{item_text}
 use Rattle.line_records.specs.Cells.{Fits, Style, symbol_of, total_tally}
-use Rattle.line_records.specs.Written.{IsSmall, IsStep, IsWhole, IsWritten, joined}
+use Rattle.line_records.specs.Written.{IsNext, IsSmall, IsStep, IsWhole, IsWritten, joined}
 use Rattle.line_records.specs.Kept.{IsKept, IsThatOf, set_after, spaces_for}
 use Rattle.line_records.specs.Results.{only_part}
 use Rattle.line_records.specs.declared.keeping.Kept.{Kept}
@@ -131,14 +131,13 @@ step_through style before next old middle new after step kept = record {
 }
 
 -- the numbers after one more byte
-pub small_next : (bytes further : ℕ) (before after : Written) → IsSmall bytes before → after.row < 256 → after.steps ≤ before.steps + 1 → after.tally ≤ before.tally + 2 ^ 34
-    → before.width ≤ℤ (after.width +ℤ pos (2 ^ 40)) → after.width ≤ℤ (before.width +ℤ pos (2 ^ 40)) → further ≡ bytes + 1 → IsSmall further after
-small_next bytes further before after small row steps sum low high is = record {
-  row = row;
-  steps = omega (arith, small.steps);
-  tally = omega (arith, small.tally);
-  low = omega (arith, ints, small.low);
-  high = omega (arith, ints, small.high);
+pub small_next : (bytes further : ℕ) (before after : Written) → IsSmall bytes before → IsNext before after → further ≡ bytes + 1 → IsSmall further after
+small_next bytes further before after small next is = record {
+  row = next.row;
+  steps = omega (arith, small.steps, next.steps);
+  tally = omega (arith, small.tally, next.tally);
+  low = omega (arith, ints, small.low, next.low);
+  high = omega (arith, ints, small.high, next.high);
 }
 
 pub ruleset steps = (written_first, written_next, written_whole, step_through, small_next)

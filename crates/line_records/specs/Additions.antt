@@ -2,7 +2,7 @@
 -- to decide this.
 -- Public source: The METAFONTbook, Appendix F, for the rules. To set a line byte by byte is this project's
 -- own; the lemma line_set states that a line which is set in this way has the setting that set_line defines.
-use Rattle.std.specs.Prelude.{ℕ, ◌+◌, ◌==◌, ◌&&◌, Bool, true, false, List, [], ◌∷◌, ◌++◌, Option, Some, None, is_some, if◌then◌else◌}
+use Rattle.std.specs.Prelude.{ℕ, ℤ, pos, ◌+◌, ◌+ℤ◌, ◌≤ℤ◌, ◌==◌, ◌&&◌, Bool, true, false, List, [], ◌∷◌, ◌++◌, Option, Some, None, is_some, if◌then◌else◌}
 use Rattle.std.specs.Option.{option_and_then, option_map}
 use Rattle.run_plan.specs.declared.policy.Policy.{Policy}
 use Rattle.run_plan.specs.declared.policy.Policy.TheVariants.{Refuse, Skip}
@@ -23,6 +23,10 @@ use Rattle.lig_kern.specs.Rewriting.{of_symbol, items_of}
 use Rattle.lig_kern.specs.Result.{Setting}
 use Rattle.set_line.specs.Onward.{setting}
 use Rattle.set_line.specs.Pieces.{is_space}
+
+-- an amount in sp differs from 0 by at most this number
+abbrev pub IsWithin : ℕ → ℤ → Type 0
+IsWithin most amount = (pos 0 ≤ℤ (amount +ℤ pos most)) × (amount ≤ℤ pos most)
 
 -- what is added to a line: steps and items, and the symbol that is current afterwards
 pub record Addition : Type 0 where

@@ -44,6 +44,14 @@ pub record IsSmall (bytes : ℕ) (so_far : Written) : Type 0 where
   pub low : pos 0 ≤ℤ (so_far.width +ℤ pos (2 ^ 40 * bytes))
   pub high : so_far.width ≤ℤ pos (2 ^ 40 * bytes)
 
+-- a step increases the sums by at most what a byte can add
+pub record IsNext (before after : Written) : Type 0 where
+  pub row : after.row < 256
+  pub steps : after.steps ≤ before.steps + 1
+  pub tally : after.tally ≤ before.tally + 2 ^ 34
+  pub low : before.width ≤ℤ (after.width +ℤ pos (2 ^ 40))
+  pub high : after.width ≤ℤ (before.width +ℤ pos (2 ^ 40))
+
 -- a whole line is written: the text of the items of its setting, their width and tally, and its steps
 pub record IsWhole (style : Style) (line room : List ℕ) (whole : Written) : Type 0 where
   pub set : Setting

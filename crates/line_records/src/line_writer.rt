@@ -178,9 +178,9 @@ impl LineWriter {
         }
     }
 
-    /// Sets a line, and appends its record. Returns its result without its items. If an allocation fails, the
-    /// contents of `out` are as before. This isn't returned for a line that is refused before it is set if `out` has
-    /// room for its record.
+    /// Sets a line, and appends its record. Returns its result without its items. If an allocation fails, the error is
+    /// returned, and a part of the record may be in `out`; but for a line that is refused before it is set this happens
+    /// only if `out` has no room for its record.
     #[tactic(auto, using(crate::proofs::ResultLemmas::records))]
     pub fn append(
         &mut self,
@@ -199,7 +199,6 @@ impl LineWriter {
             + length (line_record of.now.terms.now of.now.encoding line.entry.first line.entry.bytes.now
             of.now.source line.entry.number self.old.format) ≤ vec_capacity out.old
             → refusal_in of.now.terms.now of.now.encoding line.entry.first line.entry.bytes.now ≡ None) }
-        ensures unchanged { OnErr result (out.new.items ≡ out.old.items) }
     {
         let number = RecordNumber {
             source: of.source,

@@ -1,7 +1,8 @@
 //! Makes the texts of pairs.
-ghost use Rattle.std.specs.Prelude.{◌≡◌, ◌≤◌, ◌+◌, ◌^◌, ◌++◌, pos, ◌+ℤ◌, ◌≤ℤ◌, drop, flat_map, length, take, IfSome};
+ghost use Rattle.std.specs.Prelude.{◌≡◌, ◌≤◌, ◌+◌, ◌^◌, ◌++◌, drop, flat_map, length, take, IfSome};
 ghost use Rattle.std.specs.Option.{option_to_list};
 ghost use Rattle.set_line.specs.Width.{total_width};
+ghost use Rattle.line_records.specs.Additions.{IsWithin};
 ghost use Rattle.line_records.specs.Boxes.{item_text};
 ghost use Rattle.line_records.specs.Cells.{IsTextOf, total_tally};
 
@@ -57,8 +58,7 @@ fn write_added(text: &mut [u8], added: &Added, format: RecordFormat) -> usize
 /// Returns the amount that an item adds to the width, in sp.
 fn amount(item: Option<Item>) -> i64
     ensures sum { result ≡ total_width (option_to_list item) }
-    ensures low { pos 0 ≤ℤ (result +ℤ pos (2 ^ 31)) }
-    ensures high { result ≤ℤ pos (2 ^ 31) }
+    ensures narrow { IsWithin (2 ^ 31) result }
 {
     match item {
         Some(Item::Char { width, .. }) => i64::from(width),
@@ -84,8 +84,7 @@ fn padded(text: &[u8]) -> Option<[u8; BYTES]>
 #[tactic(auto, using(crate::proofs::AddingLemmas::widths))]
 fn passed_width(passed: &Passed) -> i64
     ensures sum { result ≡ total_width passed.now.items }
-    ensures low { pos 0 ≤ℤ (result +ℤ pos (2 ^ 32)) }
-    ensures high { result ≤ℤ pos (2 ^ 32) }
+    ensures narrow { IsWithin (2 ^ 32) result }
 {
     amount(passed.character) + amount(passed.kern)
 }
@@ -94,8 +93,7 @@ fn passed_width(passed: &Passed) -> i64
 #[tactic(auto, using(crate::proofs::AddingLemmas::widths))]
 fn added_width(added: &Added) -> i64
     ensures sum { result ≡ total_width added.now.items }
-    ensures low { pos 0 ≤ℤ (result +ℤ pos (2 ^ 40)) }
-    ensures high { result ≤ℤ pos (2 ^ 40) }
+    ensures narrow { IsWithin (2 ^ 40) result }
 {
     passed_width(&added.passed) + amount(added.cut)
 }

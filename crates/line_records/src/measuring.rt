@@ -1,12 +1,11 @@
 //! Measures the box of a line, and writes its record.
-ghost use Rattle.std.specs.Prelude.{◌≡◌, ◌++◌, OnErr, OnOk, map};
+ghost use Rattle.std.specs.Prelude.{◌≡◌, ◌++◌, OnOk, map};
 ghost use Rattle.std.specs.Int.{int_max};
-ghost use Rattle.tfm_words.specs.Appending.{StaysInFront};
 ghost use Rattle.line_records.specs.Boxes.{box_record, box_text, depth_of, height_of, largest, numbers_text};
 ghost use Rattle.line_records.specs.Kept.{as_box};
 
 use crate::keeping::Kept;
-use set_line::{OutOfMemory, RecordNumber};
+use set_line::RecordNumber;
 use std::alloc::AllocError;
 use tex_sizes::{LengthUnit, push_length};
 use tfm_tables::Font;
@@ -63,18 +62,16 @@ pub(crate) fn measure(font: &Font, codes: &[u8]) -> Extent
     extent
 }
 
-/// Appends the numbers of spaces and of skipped characters. After an error some of the bytes may have been appended.
+/// Appends the numbers of spaces and of skipped characters.
 #[tactic(auto, using(crate::proofs::BoxLemmas::boxes), unfolding(crate::specs::Boxes::numbers_text))]
 fn push_numbers(text: &mut Vec<u8>, spaces: usize, skipped: usize) -> Result<(), AllocError>
-    ensures front { StaysInFront text.old.items text.new.items }
-    ensures pushed { OnOk result (text.new.items ≡ text.old.items ++ numbers_text spaces skipped) }
+    ensures { OnOk result (text.new.items ≡ text.old.items ++ numbers_text spaces skipped) }
 {
     push_number(text, b" ", spaces)?;
     push_number(text, b" ", skipped)
 }
 
-/// Appends the dimensions of the box of a line in this unit, and its numbers of spaces and of skipped characters. After
-/// an error some of the bytes may have been appended.
+/// Appends the dimensions of the box of a line in this unit, and its numbers of spaces and of skipped characters.
 #[tactic(auto, using(crate::proofs::BoxLemmas::boxes), unfolding(crate::specs::Boxes::box_text))]
 fn push_box(
     text: &mut Vec<u8>,
@@ -82,8 +79,7 @@ fn push_box(
     kept: Kept,
     extent: Extent,
 ) -> Result<(), AllocError>
-    ensures front { StaysInFront text.old.items text.new.items }
-    ensures pushed { OnOk result (text.new.items ≡ text.old.items ++ box_text unit (as_box kept extent)) }
+    ensures { OnOk result (text.new.items ≡ text.old.items ++ box_text unit (as_box kept extent)) }
 {
     push_length(text, b" ", kept.sums.width, unit)?;
     push_length(text, b" ", i64::from(extent.height), unit)?;
@@ -91,17 +87,16 @@ fn push_box(
     push_numbers(text, kept.spaces, kept.sums.skipped)
 }
 
-/// Appends the record of a line that is set, with its box.
-#[tactic(auto, using(tfm_words::proofs::AppendingLemmas::fronts))]
-fn push_record(
+/// Appends the record of a line that is set, with its box, which has this height and this depth. After an error a part of
+/// it may have been appended.
+pub(crate) fn append_box(
     out: &mut Vec<u8>,
     number: RecordNumber,
     unit: LengthUnit,
     kept: Kept,
     extent: Extent,
 ) -> Result<(), AllocError>
-    ensures front { StaysInFront out.old.items out.new.items }
-    ensures pushed { OnOk result (out.new.items ≡ out.old.items
+    ensures { OnOk result (out.new.items ≡ out.old.items
         ++ box_record number.source number.line (box_text unit (as_box kept extent))) }
 {
     push_number(out, b"", number.source)?;
@@ -109,27 +104,4 @@ fn push_record(
     out.extend_from_slice(b" box")?;
     push_box(out, unit, kept, extent)?;
     out.extend_from_slice(b"\n")
-}
-
-/// Appends the record of a line that is set, with its box, which has this height and this depth. If an allocation
-/// fails, the contents of `out` are as before.
-pub(crate) fn append_box(
-    out: &mut Vec<u8>,
-    number: RecordNumber,
-    unit: LengthUnit,
-    kept: Kept,
-    extent: Extent,
-) -> Result<(), OutOfMemory>
-    ensures appended { OnOk result (out.new.items ≡ out.old.items
-        ++ box_record number.source number.line (box_text unit (as_box kept extent))) }
-    ensures unchanged { OnErr result (out.new.items ≡ out.old.items) }
-{
-    let before = out.len();
-    match push_record(out, number, unit, kept, extent) {
-        Ok(()) => Ok(()),
-        Err(_) => {
-            out.truncate(before);
-            Err(OutOfMemory)
-        }
-    }
 }

@@ -1,4 +1,5 @@
-ghost use Rattle.std.specs.Prelude.{◌≤◌, ◌^◌, pos, ◌+ℤ◌, ◌≤ℤ◌};
+ghost use Rattle.std.specs.Prelude.{◌≤◌, ◌^◌};
+ghost use Rattle.line_records.specs.Additions.{IsWithin};
 
 /// The number of bytes that are copied for each text. It is fixed, because a copy of 32 bytes needs no loop.
 pub(crate) const BYTES: usize = 32;
@@ -23,6 +24,5 @@ pub(crate) struct Pair {
     ghost within: { length ≤ 32 },
     ghost few: { steps ≤ 1 },
     ghost at_most: { tally ≤ 2 ^ 34 },
-    ghost low: { pos 0 ≤ℤ (width +ℤ pos (2 ^ 40)) },
-    ghost high: { width ≤ℤ pos (2 ^ 40) },
+    ghost narrow: { IsWithin (2 ^ 40) width },
 }

@@ -1,7 +1,7 @@
 //! Writes what a byte adds, with the table of texts.
-ghost use Rattle.std.specs.Prelude.{◌≡◌, ◌≤◌, ◌<◌, ◌+◌, ◌^◌, pos, ◌+ℤ◌, ◌≤ℤ◌, length, IfSome, IsNone};
+ghost use Rattle.std.specs.Prelude.{◌≡◌, ◌≤◌, ◌<◌, length, IfSome, IsNone};
 ghost use Rattle.line_records.specs.Cells.{AreCells, Style};
-ghost use Rattle.line_records.specs.Written.{IsStep};
+ghost use Rattle.line_records.specs.Written.{IsNext, IsSmall, IsStep};
 
 use crate::cells::LIGATURE;
 use crate::pair::{BYTES, Pair};
@@ -31,21 +31,13 @@ pub(crate) fn step(
     requires cells { length cells.now ≡ 65792 }
     requires next { next < 257 }
     requires room { before.length ≤ length room.old }
-    requires row { before.row < 256 }
-    requires steps { before.steps < 2 ^ 31 }
-    requires tally { before.tally < 2 ^ 62 }
-    requires low { pos 0 ≤ℤ (before.width +ℤ pos (2 ^ 62)) }
-    requires high { before.width ≤ℤ pos (2 ^ 62) }
+    requires small { IsSmall 65535 before }
     ensures step { (style : Style) → AreCells style pairs.now cells.now
         → IfSome result (IsStep style before next room.old room.new) }
     ensures room { length room.new ≡ length room.old }
     ensures unchanged { IsNone result → room.new ≡ room.old }
     ensures within { IfSome result (λ after. after.length ≤ length room.new) }
-    ensures row { IfSome result (λ after. after.row < 256) }
-    ensures steps { IfSome result (λ after. after.steps ≤ before.steps + 1) }
-    ensures tally { IfSome result (λ after. after.tally ≤ before.tally + 2 ^ 34) }
-    ensures low { IfSome result (λ after. before.width ≤ℤ (after.width +ℤ pos (2 ^ 40))) }
-    ensures high { IfSome result (λ after. after.width ≤ℤ (before.width +ℤ pos (2 ^ 40))) }
+    ensures next { IfSome result (IsNext before) }
 {
     let cell = usize::from(cells[256 * next + before.row]);
     if cell < pairs.len() {

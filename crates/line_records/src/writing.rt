@@ -1,7 +1,7 @@
 //! Writes the items of a line.
-ghost use Rattle.std.specs.Prelude.{◌≡◌, ◌≤◌, ◌<◌, ◌+◌, ◌^◌, pos, ◌+ℤ◌, ◌≤ℤ◌, drop, length, take, vec_len, IfOk, IfSome};
+ghost use Rattle.std.specs.Prelude.{◌≡◌, ◌≤◌, ◌<◌, drop, length, take, vec_len, IfOk, IfSome};
 ghost use Rattle.line_records.specs.Cells.{Fits};
-ghost use Rattle.line_records.specs.Written.{IsSmall, IsStep, IsWhole, IsWritten};
+ghost use Rattle.line_records.specs.Written.{IsNext, IsSmall, IsStep, IsWhole, IsWritten};
 
 use crate::adding::END;
 use crate::pair::BYTES;
@@ -83,19 +83,11 @@ fn step_anew(
     requires fits { Fits table.old terms.now }
     requires next { next < 257 }
     requires room { before.length ≤ vec_len room.old }
-    requires row { before.row < 256 }
-    requires steps { before.steps < 2 ^ 31 }
-    requires tally { before.tally < 2 ^ 62 }
-    requires low { pos 0 ≤ℤ (before.width +ℤ pos (2 ^ 62)) }
-    requires high { before.width ≤ℤ pos (2 ^ 62) }
+    requires small { IsSmall 65535 before }
     ensures table { table.new ≡ table.old }
     ensures step { IfSome result (IsStep table.old before next room.old.items room.new.items) }
     ensures within { IfSome result (λ after. after.length ≤ vec_len room.new) }
-    ensures row { IfSome result (λ after. after.row < 256) }
-    ensures steps { IfSome result (λ after. after.steps ≤ before.steps + 1) }
-    ensures tally { IfSome result (λ after. after.tally ≤ before.tally + 2 ^ 34) }
-    ensures low { IfSome result (λ after. before.width ≤ℤ (after.width +ℤ pos (2 ^ 40))) }
-    ensures high { IfSome result (λ after. after.width ≤ℤ (before.width +ℤ pos (2 ^ 40))) }
+    ensures next { IfSome result (IsNext before) }
 {
     table.make(terms, before.row, next);
     if make_room(room, before.length).is_err() {

@@ -1,5 +1,5 @@
-//! `record`, `LineWriter::append` and `LineWriter::result`. After a failed allocation the output is unchanged. It grows
-//! several times, so that an allocation may fail after a part of the record.
+//! `record`, `LineWriter::append` and `LineWriter::result`. After a failed allocation in `record` the output is unchanged.
+//! It grows several times, so that an allocation may fail after a part of the record.
 ghost use Rattle.std.specs.Prelude.{◌≡◌};
 ghost use Rattle.line_records.specs.Cells.{Fits};
 
@@ -108,7 +108,7 @@ fn writes<R: Abort>(
     let appended = writer.append(of, line_of(line.as_bytes()), text);
     let refused = appended.map(LineResult::is_refused);
     assert!(rt; refused.is_err() || refused == Ok(wanted == REFUSED));
-    has_record(rt, refused.is_ok(), text, wanted)
+    refused.is_ok() && has_record(rt, true, text, wanted)
 }
 
 /// Appends the record of the line twice, by one writer, and prints the outcome. If the allocation of `prepare` fails, or

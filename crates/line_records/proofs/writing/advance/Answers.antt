@@ -5,9 +5,7 @@ use Rattle.line_records.proofs.writing.advance.Goals as goal
 pub loop-at-preserved : goal.loop-at-preserved
 loop-at-preserved c = record {
   cells = c.loop-at.invariant.cells;
-  small =
-      small_next c.loop-at.at (c.loop-at.at + 1) c.loop-at.so_far c.in-Some.after c.loop-at.invariant.small
-      c.in-Some.ensures.row c.in-Some.ensures.steps c.in-Some.ensures.tally c.in-Some.ensures.low c.in-Some.ensures.high refl;
+  small = small_next c.loop-at.at (c.loop-at.at + 1) c.loop-at.so_far c.in-Some.after c.loop-at.invariant.small c.in-Some.ensures.next refl;
   room = c.in-Some.ensures.room ∙ c.loop-at.invariant.room;
   within = c.in-Some.ensures.within;
   written = λ way.

@@ -13,7 +13,7 @@ loop-at-preserved-then-at-line c =
     record {
       at = omega arith;
       table = c.step_anew.ensures.table ∙ c.loop-at.invariant.table;
-      small = small_next at (at + 1) before after c.advance-reached.ensures.small c.in-Some.ensures.row c.in-Some.ensures.steps c.in-Some.ensures.tally c.in-Some.ensures.low c.in-Some.ensures.high refl;
+      small = small_next at (at + 1) before after c.advance-reached.ensures.small c.in-Some.ensures.next refl;
       within = c.in-Some.ensures.within;
       written =
           written_next c.args.table.now c.args.line.now c.advance-reached.new.room c.step_anew.new.room.items at (at + 1) before after
