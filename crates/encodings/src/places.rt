@@ -5,10 +5,10 @@ ghost use Rattle.encodings.specs.Decoding.{IsTextOf, begins_with_mark};
 ghost use Rattle.encodings.specs.Lines.{places_of};
 ghost use Rattle.encodings.specs.Texts.{IsKeptFront};
 
+use crate::Encoding;
 use crate::cutting::split_first;
 use crate::tables::single_codes;
 use crate::texts::kept_len;
-use crate::Encoding;
 use std::marker::Model;
 use std::str;
 

@@ -7,72 +7,72 @@ use Rattle.std.proofs.lemmas.List.{get_or-set_other, get_or-take, length-set, le
 use Rattle.tfm_words.specs.Appending.{StaysInFront}
 use Rattle.formats.specs.declared.record_format.RecordFormat.{RecordFormat}
 use Rattle.line_records.specs.Additions.{Addition, added_of, one_step}
-use Rattle.line_records.specs.Cells.{AreCells, AreSame, IsCell, IsPair, IsTextOf, Style, symbol_of}
-use Rattle.line_records.specs.declared.pair.Pair.{Pair}
+use Rattle.line_records.specs.Cells.{AreCells, AreSame, IsCell, IsEntry, IsTextOf, Style, symbol_of}
+use Rattle.line_records.specs.declared.text_entry.TextEntry.{TextEntry}
 
 -- a cell for the general way, or one that isn't made yet, is right
-pub mark_cell : (style : Style) (pairs : List Pair) (row next cell : ℕ) → length pairs ≤ 65024 → 65024 ≤ cell → cell < 65280
-    → IsCell style pairs row next cell
-mark_cell style pairs row next cell few mark below = record {
-  pair = λ d within. absurd (omega arith);
+pub mark_cell : (style : Style) (entries : List TextEntry) (row next cell : ℕ) → length entries ≤ 65024 → 65024 ≤ cell → cell < 65280
+    → IsCell style entries row next cell
+mark_cell style entries row next cell few mark below = record {
+  entry = λ d within. absurd (omega arith);
   mark = λ above. mark;
   ligature = λ above. absurd (omega arith);
 }
 
 -- the cell of a ligature
-pub ligature_cell : (style : Style) (pairs : List Pair) (row next to : ℕ) → length pairs ≤ 65024
-    → added_of style.font style.policy (symbol_of style.font row) next ≡ Some (one_step [] (symbol_of style.font to)) → IsCell style pairs row next (65280 + to)
-ligature_cell style pairs row next to few is = record {
-  pair = λ d within. absurd (omega arith);
+pub ligature_cell : (style : Style) (entries : List TextEntry) (row next to : ℕ) → length entries ≤ 65024
+    → added_of style.font style.policy (symbol_of style.font row) next ≡ Some (one_step [] (symbol_of style.font to)) → IsCell style entries row next (65280 + to)
+ligature_cell style entries row next to few is = record {
+  entry = λ d within. absurd (omega arith);
   mark = λ above. omega arith;
   ligature = λ above. let same : 65280 + to - 65280 ≡ to = omega arith in is ∙ ap (λ n. Some (one_step [] (symbol_of style.font n))) (sym same);
 }
 
--- a pair that is the same has the same text
-same_text : (format : RecordFormat) (added : Addition) (pair other : Pair) → IsTextOf format added pair → AreSame pair other → IsTextOf format added other
-same_text format added pair other is same = record {
-  text = ap (λ n. take n other.text) (sym same.length) ∙ ap (λ bytes. take pair.length bytes) (sym same.text) ∙ is.text;
+-- an entry that is the same has the same text
+same_text : (format : RecordFormat) (added : Addition) (entry other : TextEntry) → IsTextOf format added entry → AreSame entry other → IsTextOf format added other
+same_text format added entry other is same = record {
+  text = ap (λ n. take n other.text) (sym same.length) ∙ ap (λ bytes. take entry.length bytes) (sym same.text) ∙ is.text;
   width = sym same.width ∙ is.width;
   steps = sym same.steps ∙ is.steps;
   tally = sym same.tally ∙ is.tally;
   few = is.few;
 }
 
--- the cell of a pair
-pub pair_cell : (style : Style) (pairs : List Pair) (pair : Pair) (row next cell : ℕ) (added : Addition)
-    → added_of style.font style.policy (symbol_of style.font row) next ≡ Some added → IsTextOf style.format added pair → (next < 256 → symbol_of style.font next ≡ added.current)
-    → length pairs ≤ 65024 → ((d : Pair) → cell < length pairs → AreSame pair (get_or pairs cell d))
-    → (length pairs ≤ cell → cell ≡ 65025) → IsCell style pairs row next cell
-pair_cell style pairs pair row next cell added is text own few same mark = record {
-  pair = λ d within. record { added = added; is = is; text = same_text style.format added pair (get_or pairs cell d) text (same d within); row = own };
+-- the cell of an entry
+pub entry_cell : (style : Style) (entries : List TextEntry) (entry : TextEntry) (row next cell : ℕ) (added : Addition)
+    → added_of style.font style.policy (symbol_of style.font row) next ≡ Some added → IsTextOf style.format added entry → (next < 256 → symbol_of style.font next ≡ added.current)
+    → length entries ≤ 65024 → ((d : TextEntry) → cell < length entries → AreSame entry (get_or entries cell d))
+    → (length entries ≤ cell → cell ≡ 65025) → IsCell style entries row next cell
+entry_cell style entries entry row next cell added is text own few same mark = record {
+  entry = λ d within. record { added = added; is = is; text = same_text style.format added entry (get_or entries cell d) text (same d within); row = own };
   mark = λ above. omega (arith, mark above);
   ligature = λ above. absurd (omega (arith, mark (omega arith)));
 }
 
-pub ruleset made = (mark_cell, ligature_cell, pair_cell)
+pub ruleset made = (mark_cell, ligature_cell, entry_cell)
 
 -- ---- the table
 
--- a cell is as right with more pairs
-cell_kept : (style : Style) (pairs more : List Pair) (row next cell : ℕ) → StaysInFront pairs more → length more ≤ 65024
-    → IsCell style pairs row next cell → IsCell style more row next cell
-cell_kept style pairs more row next cell front few is = record {
-  pair = λ d within. by (nat_lt cell (length pairs)) refl d within;
+-- a cell is as right with more entries
+cell_kept : (style : Style) (entries more : List TextEntry) (row next cell : ℕ) → StaysInFront entries more → length more ≤ 65024
+    → IsCell style entries row next cell → IsCell style more row next cell
+cell_kept style entries more row next cell front few is = record {
+  entry = λ d within. by (nat_lt cell (length entries)) refl d within;
   mark = λ above. is.mark (omega (arith, long));
   ligature = is.ligature;
 }
   where
-    long : length pairs ≤ length more
-    long = omega (arith, length-take (length pairs) more, ap length front)
+    long : length entries ≤ length more
+    long = omega (arith, length-take (length entries) more, ap length front)
 
-    by : (b : Bool) → nat_lt cell (length pairs) ≡ b → (d : Pair) → cell < length more → IsPair style (symbol_of style.font row) next (get_or more cell d)
+    by : (b : Bool) → nat_lt cell (length entries) ≡ b → (d : TextEntry) → cell < length more → IsEntry style (symbol_of style.font row) next (get_or more cell d)
     by true below d within =
-        let there : get_or pairs cell d ≡ get_or more cell d =
-        ap (λ ps. get_or ps cell d) (sym front) ∙ get_or-take (length pairs) more cell d (ltb-true cell (length pairs) below) in
-        subst (IsPair style (symbol_of style.font row) next) there (is.pair d (ltb-true cell (length pairs) below))
-    by false above d within = absurd (omega (arith, is.mark (ltb-false cell (length pairs) above)))
+        let there : get_or entries cell d ≡ get_or more cell d =
+        ap (λ ps. get_or ps cell d) (sym front) ∙ get_or-take (length entries) more cell d (ltb-true cell (length entries) below) in
+        subst (IsEntry style (symbol_of style.font row) next) there (is.entry d (ltb-true cell (length entries) below))
+    by false above d within = absurd (omega (arith, is.mark (ltb-false cell (length entries) above)))
 
--- a table without pairs, in which no cell is made yet
+-- a table without entries, in which no cell is made yet
 pub no_cells : (style : Style) (cells : List ℕ) → length cells ≡ 65792 → ((i d : ℕ) → i < 65792 → get_or cells i d ≡ 65024) → AreCells style [] cells
 no_cells style cells many all = record {
   many = many;
@@ -83,10 +83,10 @@ no_cells style cells many all = record {
 }
 
 -- a table with one more cell that is made
-pub one_cell : (style : Style) (pairs more : List Pair) (cells : List ℕ) (row next at cell : ℕ) → AreCells style pairs cells
-    → StaysInFront pairs more → length more ≤ 65024 → row < 256 → next < 257 → at ≡ 256 * next + row → IsCell style more row next cell
+pub one_cell : (style : Style) (entries more : List TextEntry) (cells : List ℕ) (row next at cell : ℕ) → AreCells style entries cells
+    → StaysInFront entries more → length more ≤ 65024 → row < 256 → next < 257 → at ≡ 256 * next + row → IsCell style more row next cell
     → AreCells style more (slice_set cells at cell)
-one_cell style pairs more cells row next at cell are front few below column place is = record {
+one_cell style entries more cells row next at cell are front few below column place is = record {
   many = length-set cells at cell ∙ are.many;
   few = few;
   each = λ row' next' below' column'. by row' next' below' column' (nat_eq (256 * next' + row') at) refl;
@@ -105,6 +105,6 @@ one_cell style pairs more cells row next at cell are front few below column plac
     by row' next' below' column' false there =
         let other : get_or (slice_set cells at cell) (256 * next' + row') 0 ≡ get_or cells (256 * next' + row') 0 =
         get_or-set_other cells at (256 * next' + row') cell 0 (λ same. eqb-false (256 * next' + row') at there same) in
-        subst (λ n. IsCell style more row' next' n) (sym other) (cell_kept style pairs more row' next' _ front few (are.each row' next' below' column'))
+        subst (λ n. IsCell style more row' next' n) (sym other) (cell_kept style entries more row' next' _ front few (are.each row' next' below' column'))
 
 pub ruleset tables = (no_cells, one_cell)

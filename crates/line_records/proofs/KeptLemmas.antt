@@ -27,7 +27,7 @@ use Rattle.formats.specs.declared.record_format.RecordFormat.{RecordFormat}
 use Rattle.line_records.specs.Boxes.{is_glue, is_skipped, item_text}
 use Rattle.line_records.specs.Kept.{AreListed, HasKept, IsKept, IsReached, gaps_in, refused_before, refused_in, refuses, set_after, spaces_for}
 use Rattle.line_records.specs.Results.{only_part, line_portions, portions_before}
-use Rattle.line_records.specs.declared.keeping.Kept.{Kept}
+use Rattle.line_records.specs.declared.keeping.KeptLine.{KeptLine}
 use Rattle.line_records.proofs.AddingLemmas.{skipped-append, total_width-append}
 use Rattle.line_records.proofs.BoxLemmas.{gap_skipped, gap_spaces, gap_width, spaces-append}
 use Rattle.line_records.proofs.RunLemmas.{mapped}
@@ -289,13 +289,13 @@ none_is true (Some character) is = cc
 none_is false None is = cc
 
 -- codes that the table stopped at, if the byte there is refused
-pub maybe_refused : (format : RecordFormat) (terms : TermsValue) (so_far : Setting) (codes texts : List ℕ) (refuses : Bool) (kept : Option (Option Kept)) → kept ≡ then_some refuses None
+pub maybe_refused : (format : RecordFormat) (terms : TermsValue) (so_far : Setting) (codes texts : List ℕ) (refuses : Bool) (kept : Option (Option KeptLine)) → kept ≡ then_some refuses None
     → (refuses ≡ true → has_refused terms.policy terms.font codes ≡ true) → IfSome kept (IsKept format (set_after terms so_far (only_part codes)) texts)
 maybe_refused format terms so_far codes texts true kept is refused = rw is (refused_kept format terms so_far codes texts (refused refl))
 maybe_refused format terms so_far codes texts false kept is refused = rw is tt
 
 -- a line whose parts are all set
-pub all_set : (format : RecordFormat) (all items : List Item) (gaps steps : ℕ) (texts : List ℕ) (kept : Kept) → AreListed format all items gaps texts
+pub all_set : (format : RecordFormat) (all items : List Item) (gaps steps : ℕ) (texts : List ℕ) (kept : KeptLine) → AreListed format all items gaps texts
     → kept.sums.width ≡ total_width items → kept.sums.steps ≡ steps → kept.sums.items ≡ length items + gaps → kept.sums.skipped ≡ count_by is_skipped items + gaps → kept.spaces ≡ spaces_for format (count_by is_glue items)
     → kept.length ≡ length texts → HasKept format (setting steps all) texts kept
 all_set format all items gaps steps texts kept listed width count many missing spaces long = record {

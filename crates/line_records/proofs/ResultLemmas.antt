@@ -42,7 +42,7 @@ use Rattle.formats.specs.declared.record_format.RecordFormat.TheVariants.{Items,
 use Rattle.line_records.specs.Boxes.{box_of, box_record, box_text, depth_of, height_of, largest}
 use Rattle.line_records.specs.Kept.{IsKept, IsKeptResult, IsTried, as_box, refused_in, refuses, set_after}
 use Rattle.line_records.specs.Results.{only_part, is_refusal, is_refused as is_result_refused, line_portions, line_result, missing_at, missing_code_in, parts_in, refusal_in, result_record, result_text, set_within, uncoded_in, utf8_refusal}
-use Rattle.line_records.specs.declared.keeping.Kept.{Kept}
+use Rattle.line_records.specs.declared.keeping.KeptLine.{KeptLine}
 use Rattle.line_records.specs.declared.measuring.Extent.{Extent}
 use Rattle.line_records.proofs.KeptLemmas.{alone_portions, codes_refused}
 use Rattle.line_records.proofs.RefusalLemmas.{element, long, missing_here, not_utf8, refusal_left}
@@ -240,7 +240,7 @@ module _ (terms : TermsValue) (encoding : Option Encoding) (first : Bool) (line 
 
 module _ (terms : TermsValue) (first : Bool) (line : List ℕ) (format : RecordFormat) (texts : List ℕ) where
   -- a line of bytes
-  pub tried_bytes : (kept : Option Kept) → length line ≤ 65535 → IsKept format (set_after terms (setting 0 []) (only_part line)) texts kept
+  pub tried_bytes : (kept : Option KeptLine) → length line ≤ 65535 → IsKept format (set_after terms (setting 0 []) (only_part line)) texts kept
       → IsTried terms None first line format texts kept
   unfolding refusal_in
   tried_bytes (Some kept) short is =
@@ -254,7 +254,7 @@ module _ (terms : TermsValue) (first : Bool) (line : List ℕ) (format : RecordF
       unmapped (Some refusal) is = cc
 
   -- a line in UTF-8
-  pub tried_text : (encoding : Encoding) (parts : List PartValue) (kept : Option Kept) → length line ≤ 65535 → fault_in line ≡ None
+  pub tried_text : (encoding : Encoding) (parts : List PartValue) (kept : Option KeptLine) → length line ≤ 65535 → fault_in line ≡ None
       → parts ≡ parts_of (encoded encoding first line) → IsKept format (set_after terms (setting 0 []) parts) texts kept → IsTried terms (Some encoding) first line format texts kept
   unfolding refusal_in
   tried_text encoding parts (Some kept) short decoded are is =
@@ -299,7 +299,7 @@ code_part numbers none = ap only_part (all_codes numbers none) ∙ sym (last_par
         by false none rest = absurd (cc)
 
 -- a line without gaps
-pub tried_codes : (terms : TermsValue) (first : Bool) (line : List ℕ) (format : RecordFormat) (texts : List ℕ) (encoding : Encoding) (numbers codes : List ℕ) (kept : Option Kept)
+pub tried_codes : (terms : TermsValue) (first : Bool) (line : List ℕ) (format : RecordFormat) (texts : List ℕ) (encoding : Encoding) (numbers codes : List ℕ) (kept : Option KeptLine)
     → length line ≤ 65535 → fault_in line ≡ None → numbers ≡ encoded encoding first line → has_gaps numbers ≡ false → codes ≡ filter is_code numbers
     → IsKept format (set_after terms (setting 0 []) (only_part codes)) texts kept → IsTried terms (Some encoding) first line format texts kept
 tried_codes terms first line format texts encoding numbers codes kept short decoded are none these is =
@@ -312,7 +312,7 @@ pub ruleset results = (found_result)
 -- ---- the record
 
 -- the record of a line that is set, from what was kept
-pub recorded : (version : Version) (font : FontValue) (source place : ℕ) (result : Result Setting TextRefusal) (texts before after : List ℕ) (kept : Kept)
+pub recorded : (version : Version) (font : FontValue) (source place : ℕ) (result : Result Setting TextRefusal) (texts before after : List ℕ) (kept : KeptLine)
     → IsKeptResult (Items version) result texts (Ok kept) → after ≡ before ++ text_record source place (set kept.sums.width kept.sums.steps (take kept.length texts)) version
     → after ≡ before ++ result_record (Items version) font source place result
 recorded version font source place result texts before after kept is appended =
@@ -321,7 +321,7 @@ recorded version font source place result texts before after kept is appended =
     text : set kept.sums.width kept.sums.steps (take kept.length texts) ≡ result_text version (Ok is.0)
     text = rw is.2.sums.width (rw is.2.sums.steps (rw is.2.text refl))
 
-pub box_recorded : (unit : LengthUnit) (font : FontValue) (source place : ℕ) (result : Result Setting TextRefusal) (texts before after : List ℕ) (kept : Kept) (extent : Extent)
+pub box_recorded : (unit : LengthUnit) (font : FontValue) (source place : ℕ) (result : Result Setting TextRefusal) (texts before after : List ℕ) (kept : KeptLine) (extent : Extent)
     → IsKeptResult (Box unit) result texts (Ok kept) → extent.height ≡ largest (map (height_of font) (take kept.length texts)) → extent.depth ≡ largest (map (depth_of font) (take kept.length texts))
     → after ≡ before ++ box_record source place (box_text unit (as_box kept extent)) → after ≡ before ++ result_record (Box unit) font source place result
 box_recorded unit font source place result texts before after kept extent is height depth appended =
@@ -330,7 +330,7 @@ box_recorded unit font source place result texts before after kept extent is hei
     same : as_box kept extent ≡ box_of font is.0.items
     same = rw (is.2.sums.width, height, depth, is.2.spaces, is.2.sums.skipped, is.2.text) refl
 
-pub set_not_refused : (format : RecordFormat) (font : FontValue) (result : Result Setting TextRefusal) (texts : List ℕ) (kept : Kept)
+pub set_not_refused : (format : RecordFormat) (font : FontValue) (result : Result Setting TextRefusal) (texts : List ℕ) (kept : KeptLine)
     → IsKeptResult format result texts (Ok kept) → false ≡ is_result_refused result
 set_not_refused format font result texts kept is = ap is_result_refused (sym is.1)
 
@@ -340,7 +340,7 @@ refused_recorded (Items version) font source place result refusal is = ap (resul
 refused_recorded (Box unit) font source place result refusal is = ap (result_record (Box unit) font source place) (sym is)
 
 -- a line that is set isn't refused before
-pub none_before : (terms : TermsValue) (encoding : Option Encoding) (first : Bool) (line : List ℕ) (format : RecordFormat) (texts : List ℕ) (kept : Kept)
+pub none_before : (terms : TermsValue) (encoding : Option Encoding) (first : Bool) (line : List ℕ) (format : RecordFormat) (texts : List ℕ) (kept : KeptLine)
     → IsKeptResult format (line_result terms encoding first line) texts (Ok kept) → refusal_in terms encoding first line ≡ None
 unfolding line_result
 none_before terms encoding first line format texts kept is = by (refusal_in terms encoding first line) is.1

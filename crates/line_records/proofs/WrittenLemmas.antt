@@ -21,8 +21,8 @@ use Rattle.line_records.specs.Cells.{Fits, Style, symbol_of, total_tally}
 use Rattle.line_records.specs.Written.{IsNext, IsSmall, IsStep, IsWhole, IsWritten, joined}
 use Rattle.line_records.specs.Kept.{IsKept, IsThatOf, set_after, spaces_for}
 use Rattle.line_records.specs.Results.{only_part}
-use Rattle.line_records.specs.declared.keeping.Kept.{Kept}
-use Rattle.line_records.specs.declared.written.Written.{Written}
+use Rattle.line_records.specs.declared.keeping.KeptLine.{KeptLine}
+use Rattle.line_records.specs.declared.line_state.LineState.{LineState}
 use Rattle.line_records.proofs.AddingLemmas.{total_tally-append, total_width-append}
 use Rattle.line_records.proofs.BoxLemmas.{line_spaces}
 use Rattle.line_records.proofs.LineLemmas.{line_set}
@@ -41,7 +41,7 @@ joined_none : (o : Option Setting) → o ≡ option_map (joined (setting 0 [])) 
 joined_none None = refl
 joined_none (Some set) = let same : 0 + set.steps ≡ set.steps = omega arith in ap (λ n. Some (setting n set.items)) (sym same)
 
-pub written_first : (style : Style) (line room : List ℕ) (start : Written) → start.row ≡ 32 → start.length ≡ 0 → start.steps ≡ 0 → start.tally ≡ 0 → start.width ≡ pos 0
+pub written_first : (style : Style) (line room : List ℕ) (start : LineState) → start.row ≡ 32 → start.length ≡ 0 → start.steps ≡ 0 → start.tally ≡ 0 → start.width ≡ pos 0
     → IsWritten style line line room start
 written_first style line room start row none steps sum width = record {
   set = setting 0 [];
@@ -62,17 +62,17 @@ joined_twice set added (Some more) =
     ∙ ap (λ xs. Some (setting ((set.steps + added.steps) + more.steps) xs)) (sym (append_assoc set.items added.items more.items))
 
 -- what a step adds to what is written
-added_text : (style : Style) (line rest old new : List ℕ) (next : ℕ) (before after : Written) (way : IsWritten style line rest old before) (step : IsStep style before next old new after)
+added_text : (style : Style) (line rest old new : List ℕ) (next : ℕ) (before after : LineState) (way : IsWritten style line rest old before) (step : IsStep style before next old new after)
     → take after.length new ≡ flat_map (item_text style.format) (way.set.items ++ step.added.items)
 added_text style line rest old new next before after way step =
     step.text ∙ ap (λ xs. xs ++ flat_map (item_text style.format) step.added.items) way.text ∙ sym (flat_map-append (item_text style.format) way.set.items step.added.items)
 
-added_width : (style : Style) (line rest old new : List ℕ) (next : ℕ) (before after : Written) (way : IsWritten style line rest old before) (step : IsStep style before next old new after)
+added_width : (style : Style) (line rest old new : List ℕ) (next : ℕ) (before after : LineState) (way : IsWritten style line rest old before) (step : IsStep style before next old new after)
     → after.width ≡ total_width (way.set.items ++ step.added.items)
 added_width style line rest old new next before after way step =
     step.width ∙ ap (λ w. w +ℤ total_width step.added.items) way.width ∙ sym (total_width-append way.set.items step.added.items)
 
-written_byte : (style : Style) (line old new : List ℕ) (byte : ℕ) (rest : List ℕ) (before next : Written) → IsWritten style line (byte ∷ rest) old before
+written_byte : (style : Style) (line old new : List ℕ) (byte : ℕ) (rest : List ℕ) (before next : LineState) → IsWritten style line (byte ∷ rest) old before
     → IsStep style before byte old new next → byte < 256 → IsWritten style line rest new next
 unfolding set_from
 written_byte style line old new byte rest before next way step small =
@@ -91,7 +91,7 @@ written_byte style line old new byte rest before next way step small =
       few = omega (arith, step.few, way.few, length-append way.set.items step.added.items);
     }
 
-pub written_next : (style : Style) (line old new : List ℕ) (at further : ℕ) (before next : Written) → IsWritten style line (drop at line) old before
+pub written_next : (style : Style) (line old new : List ℕ) (at further : ℕ) (before next : LineState) → IsWritten style line (drop at line) old before
     → IsStep style before (get_or line at 0) old new next → at < length line → get_or line at 0 < 256 → further ≡ at + 1
     → IsWritten style line (drop further line) new next
 written_next style line old new at further before next way step within small is =
@@ -100,7 +100,7 @@ written_next style line old new at further before next way step within small is 
     written_byte style line old new (get_or line at 0) (drop further line) before next
     (subst (λ rest. IsWritten style line rest old before) here way) step small
 
-pub written_whole : (style : Style) (line rest old new : List ℕ) (before whole : Written) → IsWritten style line rest old before → rest ≡ []
+pub written_whole : (style : Style) (line rest old new : List ℕ) (before whole : LineState) → IsWritten style line rest old before → rest ≡ []
     → IsStep style before 256 old new whole → IsWhole style line new whole
 unfolding set_from
 written_whole style line rest old new before whole way none step = record {
@@ -117,7 +117,7 @@ written_whole style line rest old new before whole way none step = record {
 }
 
 -- a step in a room whose front was kept
-pub step_through : (style : Style) (before : Written) (next : ℕ) (old middle new : List ℕ) (after : Written)
+pub step_through : (style : Style) (before : LineState) (next : ℕ) (old middle new : List ℕ) (after : LineState)
     → IsStep style before next middle new after → take before.length middle ≡ take before.length old → IsStep style before next old new after
 step_through style before next old middle new after step kept = record {
   added = step.added;
@@ -131,7 +131,7 @@ step_through style before next old middle new after step kept = record {
 }
 
 -- the numbers after one more byte
-pub small_next : (bytes further : ℕ) (before after : Written) → IsSmall bytes before → IsNext before after → further ≡ bytes + 1 → IsSmall further after
+pub small_next : (bytes further : ℕ) (before after : LineState) → IsSmall bytes before → IsNext before after → further ≡ bytes + 1 → IsSmall further after
 small_next bytes further before after small next is = record {
   row = next.row;
   steps = omega (arith, small.steps, next.steps);
@@ -147,7 +147,7 @@ pub whole_slice : (size : ℕ) (new behind : List ℕ) → length new ≡ size �
 whole_slice size new behind long = ap (λ n. take n (new ++ behind)) (sym long) ∙ take-append_seam new behind
 
 -- a step in a slice of a room whose front was kept
-pub step_back : (style : Style) (before : Written) (next size : ℕ) (old middle new behind : List ℕ) (r : Option Written)
+pub step_back : (style : Style) (before : LineState) (next size : ℕ) (old middle new behind : List ℕ) (r : Option LineState)
     → length new ≡ size → take before.length middle ≡ take before.length old
     → IfSome r (IsStep style before next middle new) → IfSome r (IsStep style before next old (take size (new ++ behind)))
 step_back style before next size old middle new behind None long kept step = tt
@@ -155,7 +155,7 @@ step_back style before next size old middle new behind (Some after) long kept st
     rw (whole_slice size new behind long) (step_through style before next old middle new after step kept)
 
 -- a line that is written and within the limit
-pub set_as : (style : Style) (terms : TermsValue) (line room : List ℕ) (whole : Written) (spaces : ℕ) (kept : Kept) → IsWhole style line room whole → Fits style terms → length line ≤ 65535
+pub set_as : (style : Style) (terms : TermsValue) (line room : List ℕ) (whole : LineState) (spaces : ℕ) (kept : KeptLine) → IsWhole style line room whole → Fits style terms → length line ≤ 65535
     → whole.steps ≤ terms.limit → whole.length ≤ length room → spaces ≡ spaces_for style.format (count_by is_space line) → IsThatOf whole spaces kept
     → IsKept style.format (set_after terms (setting 0 []) (only_part line)) room (Some kept)
 set_as style terms line room whole spaces kept is fits short within inside counted same = (

@@ -1,5 +1,5 @@
 -- The table of texts: for each current symbol, and for each byte after it or the end of the line, the text of
--- the items that are added. The text with its sums is a pair. This project's own.
+-- the items that are added. The text with its sums is an entry. This project's own.
 use Rattle.std.specs.Prelude.{◌≡◌, ℕ, ◌+◌, ◌-◌, ◌*◌, ◌<◌, ◌≤◌, ◌^◌, List, [], length, take, get_or, flat_map, Some, if◌then◌else◌}
 use Rattle.std.specs.List.{count_by}
 use Rattle.run_plan.specs.declared.policy.Policy.{Policy}
@@ -13,7 +13,7 @@ use Rattle.set_line.specs.Width.{total_width}
 use Rattle.formats.specs.declared.record_format.RecordFormat.{RecordFormat}
 use Rattle.line_records.specs.Additions.{Addition, added_of, one_step}
 use Rattle.line_records.specs.Boxes.{is_skipped, item_text}
-use Rattle.line_records.specs.declared.pair.Pair.{Pair}
+use Rattle.line_records.specs.declared.text_entry.TextEntry.{TextEntry}
 
 -- what a table depends on: the font, the missing-character policy, and the format of the records
 pub record Style : Type 0 where
@@ -39,40 +39,40 @@ symbol_of font row = if is_cut font row then Left else Char row
 abbrev pub total_tally : List Item → ℕ
 total_tally items = length items + 2 ^ 32 * count_by is_skipped items
 
--- a pair has the text, the width, the steps and the tally of an addition, which has at most three items
-pub record IsTextOf (format : RecordFormat) (added : Addition) (pair : Pair) : Type 0 where
-  pub text : take pair.length pair.text ≡ flat_map (item_text format) added.items
-  pub width : pair.width ≡ total_width added.items
-  pub steps : pair.steps ≡ added.steps
-  pub tally : pair.tally ≡ total_tally added.items
+-- an entry has the text, the width, the steps and the tally of an addition, which has at most three items
+pub record IsTextOf (format : RecordFormat) (added : Addition) (entry : TextEntry) : Type 0 where
+  pub text : take entry.length entry.text ≡ flat_map (item_text format) added.items
+  pub width : entry.width ≡ total_width added.items
+  pub steps : entry.steps ≡ added.steps
+  pub tally : entry.tally ≡ total_tally added.items
   pub few : length added.items ≤ 3
 
--- two pairs have the same text, width and steps and the same tally
-pub record AreSame (one other : Pair) : Type 0 where
+-- two entries have the same text, width and steps and the same tally
+pub record AreSame (one other : TextEntry) : Type 0 where
   pub text : one.text ≡ other.text
   pub length : one.length ≡ other.length
   pub width : one.width ≡ other.width
   pub steps : one.steps ≡ other.steps
   pub tally : one.tally ≡ other.tally
 
--- a pair is right for a byte after a symbol, or for the end of the line (256): it has the text of what is
+-- an entry is right for a byte after a symbol, or for the end of the line (256): it has the text of what is
 -- added, and after a byte the symbol of the byte's own row is current
-pub record IsPair (style : Style) (current : Symbol) (next : ℕ) (pair : Pair) : Type 0 where
+pub record IsEntry (style : Style) (current : Symbol) (next : ℕ) (entry : TextEntry) : Type 0 where
   pub added : Addition
   pub is : added_of style.font style.policy current next ≡ Some added
-  pub text : IsTextOf style.format added pair
+  pub text : IsTextOf style.format added entry
   pub row : next < 256 → symbol_of style.font next ≡ added.current
 
--- a cell of the table is right: if it is an index, the pair there is right, and otherwise it is at least
+-- a cell of the table is right: if it is an index, the entry there is right, and otherwise it is at least
 -- 65,024. If it is at least 65,280, a ligature replaces the current symbol and the byte; the number above
 -- 65,280 is the row of this ligature
-pub record IsCell (style : Style) (pairs : List Pair) (row next cell : ℕ) : Type 0 where
-  pub pair : (d : Pair) → cell < length pairs → IsPair style (symbol_of style.font row) next (get_or pairs cell d)
-  pub mark : length pairs ≤ cell → 65024 ≤ cell
+pub record IsCell (style : Style) (entries : List TextEntry) (row next cell : ℕ) : Type 0 where
+  pub entry : (d : TextEntry) → cell < length entries → IsEntry style (symbol_of style.font row) next (get_or entries cell d)
+  pub mark : length entries ≤ cell → 65024 ≤ cell
   pub ligature : 65280 ≤ cell → added_of style.font style.policy (symbol_of style.font row) next ≡ Some (one_step [] (symbol_of style.font (cell - 65280)))
 
 -- the cells of a table are right: there are 257 columns, for the bytes and for the end of a line, of 256 rows
-pub record AreCells (style : Style) (pairs : List Pair) (cells : List ℕ) : Type 0 where
+pub record AreCells (style : Style) (entries : List TextEntry) (cells : List ℕ) : Type 0 where
   pub many : length cells ≡ 65792
-  pub few : length pairs ≤ 65024
-  pub each : (row next : ℕ) → row < 256 → next < 257 → IsCell style pairs row next (get_or cells (256 * next + row) 0)
+  pub few : length entries ≤ 65024
+  pub each : (row next : ℕ) → row < 256 → next < 257 → IsCell style entries row next (get_or cells (256 * next + row) 0)

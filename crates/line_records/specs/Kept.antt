@@ -20,9 +20,9 @@ use Rattle.encodings.specs.Parts.{PartValue, uncoded_after}
 use Rattle.formats.specs.declared.record_format.RecordFormat.{RecordFormat}
 use Rattle.formats.specs.declared.record_format.RecordFormat.TheVariants.{Items, Box}
 use Rattle.line_records.specs.Boxes.{BoxValue, is_glue, is_skipped, item_text}
-use Rattle.line_records.specs.declared.keeping.Kept.{Kept}
+use Rattle.line_records.specs.declared.keeping.KeptLine.{KeptLine}
 use Rattle.line_records.specs.declared.measuring.Extent.{Extent}
-use Rattle.line_records.specs.declared.written.Written.{Written}
+use Rattle.line_records.specs.declared.line_state.LineState.{LineState}
 use Rattle.line_records.specs.Results.{HasSums, line_portions, line_result, refusal_in}
 
 -- whether missing characters are refused
@@ -69,14 +69,14 @@ spaces_for (Items version) spaces = 0
 spaces_for (Box unit) spaces = spaces
 
 -- the texts of the items of a line that is set are at the front of a list
-pub record HasKept (format : RecordFormat) (set : Setting) (texts : List ℕ) (kept : Kept) : Type 0 where
+pub record HasKept (format : RecordFormat) (set : Setting) (texts : List ℕ) (kept : KeptLine) : Type 0 where
   pub sums : HasSums set kept.sums
   pub spaces : kept.spaces ≡ spaces_for format (count_by is_glue set.items)
   pub within : kept.length ≤ length texts
   pub text : take kept.length texts ≡ flat_map (item_text format) set.items
 
 -- what was written with the table of texts, as a line that is kept, with this number of spaces
-pub record IsThatOf (whole : Written) (number : ℕ) (kept : Kept) : Type 0 where
+pub record IsThatOf (whole : LineState) (number : ℕ) (kept : KeptLine) : Type 0 where
   pub width : kept.sums.width ≡ whole.width
   pub steps : kept.sums.steps ≡ whole.steps
   pub tally : kept.sums.items + 2 ^ 32 * kept.sums.skipped ≡ whole.tally
@@ -85,7 +85,7 @@ pub record IsThatOf (whole : Written) (number : ℕ) (kept : Kept) : Type 0 wher
   pub length : kept.length ≡ whole.length
 
 -- the box of a line that is kept, with this height and this depth
-abbrev pub as_box : Kept → Extent → BoxValue
+abbrev pub as_box : KeptLine → Extent → BoxValue
 as_box kept extent = record {
   width = kept.sums.width;
   height = extent.height;
@@ -95,18 +95,18 @@ as_box kept extent = record {
 }
 
 -- the return value of a function that sets a whole line
-abbrev pub IsKept : RecordFormat → Option Setting → List ℕ → Option Kept → Type 0
+abbrev pub IsKept : RecordFormat → Option Setting → List ℕ → Option KeptLine → Type 0
 IsKept format reached texts (Some kept) = (set : Setting) × (reached ≡ Some set) × HasKept format set texts kept
 IsKept format reached texts None = reached ≡ None
 
 -- the same for a line that may be refused
-abbrev pub IsKeptResult : RecordFormat → Result Setting TextRefusal → List ℕ → Result Kept TextRefusal → Type 0
+abbrev pub IsKeptResult : RecordFormat → Result Setting TextRefusal → List ℕ → Result KeptLine TextRefusal → Type 0
 IsKeptResult format result texts (Ok kept) = (set : Setting) × (result ≡ Ok set) × HasKept format set texts kept
 IsKeptResult format result texts (Err refusal) = result ≡ Err refusal
 
 -- the return value of a function that sets a line that may be refused: `None` if it is refused, or if it takes more
 -- steps than the limit
-abbrev pub IsTried : TermsValue → Option Encoding → Bool → List ℕ → RecordFormat → List ℕ → Option Kept → Type 0
+abbrev pub IsTried : TermsValue → Option Encoding → Bool → List ℕ → RecordFormat → List ℕ → Option KeptLine → Type 0
 IsTried terms encoding first line format texts (Some kept) = IsKeptResult format (line_result terms encoding first line) texts (Ok kept)
 IsTried terms encoding first line format texts None =
     refusal_in terms encoding first line ≡ None → line_result terms encoding first line ≡ Err (Line (Steps terms.limit))

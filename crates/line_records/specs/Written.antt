@@ -8,10 +8,10 @@ use Rattle.set_line.specs.Width.{total_width}
 use Rattle.line_records.specs.Additions.{Addition, added_of, set_from}
 use Rattle.line_records.specs.Boxes.{item_text}
 use Rattle.line_records.specs.Cells.{Style, symbol_of, total_tally}
-use Rattle.line_records.specs.declared.written.Written.{Written}
+use Rattle.line_records.specs.declared.line_state.LineState.{LineState}
 
 -- what a byte adds, or the end of the line (256), was written after the text that was there before
-pub record IsStep (style : Style) (before : Written) (next : ℕ) (old new : List ℕ) (after : Written) : Type 0 where
+pub record IsStep (style : Style) (before : LineState) (next : ℕ) (old new : List ℕ) (after : LineState) : Type 0 where
   pub added : Addition
   pub is : added_of style.font style.policy (symbol_of style.font before.row) next ≡ Some added
   pub row : next < 256 → symbol_of style.font after.row ≡ added.current
@@ -26,7 +26,7 @@ abbrev pub joined : Setting → Setting → Setting
 joined set more = setting (set.steps + more.steps) (set.items ++ more.items)
 
 -- a line is written up to one of its bytes, and `rest` is still to be written
-pub record IsWritten (style : Style) (line rest room : List ℕ) (so_far : Written) : Type 0 where
+pub record IsWritten (style : Style) (line rest room : List ℕ) (so_far : LineState) : Type 0 where
   pub set : Setting
   pub onward : set_from style.font style.policy Left line ≡ option_map (joined set) (set_from style.font style.policy (symbol_of style.font so_far.row) rest)
   pub text : take so_far.length room ≡ flat_map (item_text style.format) set.items
@@ -37,7 +37,7 @@ pub record IsWritten (style : Style) (line rest room : List ℕ) (so_far : Writt
 
 -- the row is one of the table, and each sum is within a bound that grows with this number of bytes, so that
 -- no addition overflows
-pub record IsSmall (bytes : ℕ) (so_far : Written) : Type 0 where
+pub record IsSmall (bytes : ℕ) (so_far : LineState) : Type 0 where
   pub row : so_far.row < 256
   pub steps : so_far.steps ≤ bytes
   pub tally : so_far.tally ≤ 2 ^ 34 * bytes
@@ -45,7 +45,7 @@ pub record IsSmall (bytes : ℕ) (so_far : Written) : Type 0 where
   pub high : so_far.width ≤ℤ pos (2 ^ 40 * bytes)
 
 -- a step increases the sums by at most what a byte can add
-pub record IsNext (before after : Written) : Type 0 where
+pub record IsNext (before after : LineState) : Type 0 where
   pub row : after.row < 256
   pub steps : after.steps ≤ before.steps + 1
   pub tally : after.tally ≤ before.tally + 2 ^ 34
@@ -53,7 +53,7 @@ pub record IsNext (before after : Written) : Type 0 where
   pub high : after.width ≤ℤ (before.width +ℤ pos (2 ^ 40))
 
 -- a whole line is written: the text of the items of its setting, their width and tally, and its steps
-pub record IsWhole (style : Style) (line room : List ℕ) (whole : Written) : Type 0 where
+pub record IsWhole (style : Style) (line room : List ℕ) (whole : LineState) : Type 0 where
   pub set : Setting
   pub is : set_from style.font style.policy Left line ≡ Some set
   pub text : take whole.length room ≡ flat_map (item_text style.format) set.items

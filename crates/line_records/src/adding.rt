@@ -20,7 +20,7 @@ pub(crate) const END: usize = 256;
 /// What a step past the current symbol, or the end of a run, adds to a line: at most one character, and one
 /// kern after it.
 #[derive(Drop)]
-pub(crate) struct Passed {
+pub(crate) struct StepAddition {
     pub steps: u8,
     pub character: Option<Item>,
     pub kern: Option<Item>,
@@ -28,7 +28,7 @@ pub(crate) struct Passed {
     pub current: Symbol,
 }
 
-impl Model for Passed {
+impl Model for StepAddition {
     ghost use Rattle.std.specs.Prelude.{◌++◌};
     ghost use Rattle.std.specs.Option.{option_to_list};
     ghost use Rattle.line_records.specs.Additions.{Addition};
@@ -45,14 +45,14 @@ impl Model for Passed {
 /// What a byte adds to a line: what the step past the current symbol or the end of the run adds, and possibly
 /// a space or a skipped byte after it.
 #[derive(Drop)]
-pub(crate) struct Added {
-    pub passed: Passed,
+pub(crate) struct ByteAddition {
+    pub passed: StepAddition,
     pub cut: Option<Item>,
     /// The symbol that is current afterwards.
     pub current: Symbol,
 }
 
-impl Model for Added {
+impl Model for ByteAddition {
     ghost use Rattle.std.specs.Prelude.{◌++◌};
     ghost use Rattle.std.specs.Option.{option_to_list};
     ghost use Rattle.line_records.specs.Additions.{Addition};
@@ -93,10 +93,10 @@ fn item_of(font: &Font, symbol: Symbol) -> Option<Item>
 
 /// Returns what a step past a symbol adds, with this kern after it.
 #[tactic(auto, using(crate::proofs::AddingLemmas::items), unfolding(lig_kern::specs::Rewriting::items_of))]
-fn step_past(font: &Font, symbol: Symbol, kern: Option<i32>, next: Symbol) -> Passed
+fn step_past(font: &Font, symbol: Symbol, kern: Option<i32>, next: Symbol) -> StepAddition
     ensures { result ≡ one_step (items_of font.now (plain_sent (PassesSymbol kern) symbol)) next }
 {
-    Passed {
+    StepAddition {
         steps: 1,
         character: item_of(font, symbol),
         kern: kern.map(Item::Kern),
@@ -107,12 +107,12 @@ fn step_past(font: &Font, symbol: Symbol, kern: Option<i32>, next: Symbol) -> Pa
 /// Returns what the step from the current symbol to a character adds. Returns `None` for a ligature operation
 /// that doesn't replace both, since a further action may apply to the neighbour that it keeps.
 #[tactic(auto, using(crate::proofs::AddingLemmas::items), unfolding(lig_kern::specs::Rewriting::items_of))]
-fn stepped(font: &Font, current: Symbol, next: Symbol) -> Option<Passed>
+fn stepped(font: &Font, current: Symbol, next: Symbol) -> Option<StepAddition>
     ensures { result ≡ step_by font.now (action_between font.now current next) current next }
 {
     match plain_action(first_match(font, current, next))? {
         Plain::Passes(kern) => Some(step_past(font, current, kern, next)),
-        Plain::Replaces(code) => Some(Passed {
+        Plain::Replaces(code) => Some(StepAddition {
             steps: 1,
             character: None,
             kern: None,
@@ -122,7 +122,7 @@ fn stepped(font: &Font, current: Symbol, next: Symbol) -> Option<Passed>
 }
 
 /// Returns what the step from a character to the right boundary adds, or `None` if a ligature matches.
-fn to_boundary(font: &Font, current: Symbol) -> Option<Passed>
+fn to_boundary(font: &Font, current: Symbol) -> Option<StepAddition>
     ensures { result ≡ boundary_by font.now (action_between font.now current RightSymbol) current }
 {
     match plain_action(first_match(font, current, Symbol::Right))? {
@@ -134,11 +134,11 @@ fn to_boundary(font: &Font, current: Symbol) -> Option<Passed>
 /// Returns what the end of a run adds, or `None` if a ligature at the right boundary matches. `right` states that
 /// the right boundary may follow the run.
 #[tactic(auto, using(crate::proofs::AddingLemmas::items), unfolding(crate::specs::Additions::ending_of))]
-fn ending(font: &Font, right: bool, current: Symbol) -> Option<Passed>
+fn ending(font: &Font, right: bool, current: Symbol) -> Option<StepAddition>
     ensures { result ≡ ending_by font.now right current }
 {
     match current {
-        Symbol::Left => Some(Passed {
+        Symbol::Left => Some(StepAddition {
             steps: 0,
             character: None,
             kern: None,
@@ -149,7 +149,7 @@ fn ending(font: &Font, right: bool, current: Symbol) -> Option<Passed>
             if right && font.right_boundary().is_some() {
                 return to_boundary(font, current);
             }
-            Some(Passed {
+            Some(StepAddition {
                 steps: 0,
                 character: item_of(font, current),
                 kern: None,
@@ -161,11 +161,11 @@ fn ending(font: &Font, right: bool, current: Symbol) -> Option<Passed>
 
 /// Returns what was passed, without an item after it.
 #[tactic(auto, using(crate::proofs::AddingLemmas::items))]
-fn uncut(passed: Passed) -> Added
+fn uncut(passed: StepAddition) -> ByteAddition
     ensures { result ≡ passed }
 {
     let current = passed.current;
-    Added {
+    ByteAddition {
         passed,
         cut: None,
         current,
@@ -174,11 +174,11 @@ fn uncut(passed: Passed) -> Added
 
 /// Returns what the end of a run adds, and then this item of the byte that ends it.
 #[tactic(auto, using(crate::proofs::AddingLemmas::items), unfolding(crate::specs::Additions::cut_added))]
-fn cut_added(font: &Font, current: Symbol, right: bool, cut: Item) -> Option<Added>
+fn cut_added(font: &Font, current: Symbol, right: bool, cut: Item) -> Option<ByteAddition>
     ensures { result ≡ added_by_cut font.now right cut current }
 {
     let passed = ending(font, right, current)?;
-    Some(Added {
+    Some(ByteAddition {
         passed,
         cut: Some(cut),
         current: Symbol::Left,
@@ -187,7 +187,7 @@ fn cut_added(font: &Font, current: Symbol, right: bool, cut: Item) -> Option<Add
 
 /// Returns what a byte adds after the current symbol.
 #[tactic(auto, unfolding(crate::specs::Additions::byte_added))]
-fn byte_added(font: &Font, policy: Policy, current: Symbol, byte: u8) -> Option<Added>
+fn byte_added(font: &Font, policy: Policy, current: Symbol, byte: u8) -> Option<ByteAddition>
     ensures { result ≡ added_by_byte font.now policy current byte }
 {
     if byte == b' ' {
@@ -205,7 +205,12 @@ fn byte_added(font: &Font, policy: Policy, current: Symbol, byte: u8) -> Option<
 /// Returns what a byte adds after the current symbol, or the end of the line for the column `END`. Returns
 /// `None` if a ligature matches that keeps a neighbour or is at the right boundary, or if the byte is refused.
 #[tactic(auto, unfolding(crate::specs::Additions::added_of))]
-pub(crate) fn added_at(font: &Font, policy: Policy, current: Symbol, next: usize) -> Option<Added>
+pub(crate) fn added_at(
+    font: &Font,
+    policy: Policy,
+    current: Symbol,
+    next: usize,
+) -> Option<ByteAddition>
     requires { next < 257 }
     ensures { result ≡ added_by font.now policy current next }
 {

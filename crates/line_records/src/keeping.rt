@@ -13,10 +13,10 @@ ghost use Rattle.line_records.specs.Cells.{Fits, style_of};
 ghost use Rattle.line_records.specs.Kept.{AreListed, IsKept, IsReached, IsThatOf, gaps_in, set_after, spaces_for};
 ghost use Rattle.line_records.specs.Results.{only_part};
 
-use crate::pair::SKIPPED;
-use crate::table::PairTable;
+use crate::line_state::LineState;
+use crate::table::TextTable;
+use crate::text_entry::SKIPPED;
 use crate::writing::write_line;
-use crate::written::Written;
 use crate::{RecordFormat, Sums};
 use encodings::{Part, Parts};
 use lig_kern::Item;
@@ -26,7 +26,7 @@ use std::alloc::AllocError;
 /// A line that is set. The texts of its items are at the front of the list of texts; for a box they are the codes of
 /// the characters.
 #[derive(Clone, Copy)]
-pub(crate) struct Kept {
+pub(crate) struct KeptLine {
     pub sums: Sums,
     /// The number of spaces, or 0 if the record doesn't have it.
     pub spaces: usize,
@@ -145,7 +145,7 @@ pub(crate) fn set_parts(
     format: RecordFormat,
     parts: Parts<'_>,
     lists: &mut Lists,
-) -> Result<Option<Kept>, AllocError>
+) -> Result<Option<KeptLine>, AllocError>
     requires { length (joined parts) ≤ 65535 }
     ensures { IfOk result (IsKept format
         (set_after terms.now (setting 0 []) parts.entry) lists.new.texts.items) }
@@ -167,7 +167,7 @@ pub(crate) fn set_parts(
         items: lists.items.len() + gaps,
         skipped: count_skipped(&lists.items) + gaps,
     };
-    Ok(Some(Kept {
+    Ok(Some(KeptLine {
         sums,
         spaces: count_spaces(format, &lists.items),
         length: lists.texts.len(),
@@ -198,11 +198,11 @@ fn count_codes(format: RecordFormat, codes: &[u8]) -> usize
 }
 
 /// Returns what was written, with this number of spaces, as a line that is kept.
-fn as_kept(whole: Written, spaces: usize) -> Kept
+fn as_kept(whole: LineState, spaces: usize) -> KeptLine
     requires { whole.steps < 2 ^ 32 }
     ensures { IsThatOf whole spaces result }
 {
-    Kept {
+    KeptLine {
         sums: Sums {
             width: whole.width,
             steps: whole.steps as u32,
@@ -218,11 +218,11 @@ fn as_kept(whole: Written, spaces: usize) -> Kept
 /// general way.
 #[tactic(auto, using(crate::proofs::KeptLemmas::plainly))]
 fn set_plainly(
-    table: &mut PairTable,
+    table: &mut TextTable,
     terms: &Terms,
     codes: &[u8],
     texts: &mut Vec<u8>,
-) -> Option<Option<Kept>>
+) -> Option<Option<KeptLine>>
     requires fits { Fits table.old terms.now }
     requires short { length codes.now ≤ 65535 }
     ensures table { table.new ≡ table.old }
@@ -240,12 +240,12 @@ fn set_plainly(
 /// Sets codes, with the table of texts if there is one and it is enough. Returns `None` if a character is
 /// refused, or if the codes take more steps than the limit.
 pub(crate) fn set_codes(
-    table: &mut Option<PairTable>,
+    table: &mut Option<TextTable>,
     terms: &Terms,
     format: RecordFormat,
     codes: &[u8],
     lists: &mut Lists,
-) -> Result<Option<Kept>, AllocError>
+) -> Result<Option<KeptLine>, AllocError>
     requires table { IfSome table.old (λ table. table ≡ style_of terms.now format) }
     requires short { length codes.now ≤ 65535 }
     ensures table { table.new ≡ table.old }

@@ -3,10 +3,10 @@ ghost use Rattle.line_records.specs.Cells.{Fits, style_of};
 ghost use Rattle.line_records.specs.Kept.{IsKeptResult, IsTried};
 ghost use Rattle.line_records.specs.Results.{IsResult, line_record, line_result, refusal_in};
 
-use crate::keeping::{Kept, Lists, set_codes, set_parts};
+use crate::keeping::{KeptLine, Lists, set_codes, set_parts};
 use crate::measuring::{append_box, measure};
 use crate::refusing::find_refusal;
-use crate::table::PairTable;
+use crate::table::TextTable;
 use crate::{LineResult, RecordFormat, RecordOf, SourceLine};
 use encodings::{EncodeFault, EncodedLine, encode_line};
 use set_line::{
@@ -22,7 +22,7 @@ use tfm_tables::Font;
 #[derive(Drop)]
 struct Rooms {
     /// The table of texts, if the writer is prepared.
-    table: Option<PairTable>,
+    table: Option<TextTable>,
     /// The codes of a line in UTF-8.
     codes: EncodedLine,
     lists: Lists,
@@ -35,7 +35,7 @@ fn try_keep(
     format: RecordFormat,
     of: &RecordOf<'_>,
     line: SourceLine<'_>,
-) -> Result<Option<Kept>, OutOfMemory>
+) -> Result<Option<KeptLine>, OutOfMemory>
     requires { IfSome rooms.old.table (λ table. table ≡ style_of of.now.terms.now format) }
     ensures table { rooms.new.table ≡ rooms.old.table }
     ensures kept { IfOk result (IsTried of.now.terms.now of.now.encoding line.entry.first line.entry.bytes.now
@@ -74,7 +74,7 @@ fn keep(
     format: RecordFormat,
     of: &RecordOf<'_>,
     line: SourceLine<'_>,
-) -> Result<Result<Kept, TextRefusal>, OutOfMemory>
+) -> Result<Result<KeptLine, TextRefusal>, OutOfMemory>
     requires { IfSome rooms.old.table (λ table. table ≡ style_of of.now.terms.now format) }
     ensures table { rooms.new.table ≡ rooms.old.table }
     ensures kept { IfOk result (IsKeptResult format
@@ -154,7 +154,7 @@ impl LineWriter {
     {
         if self.rooms.table.is_none() {
             let alloc = *self.rooms.lists.items.allocator();
-            self.rooms.table = PairTable::new(alloc, terms, self.format).ok();
+            self.rooms.table = TextTable::new(alloc, terms, self.format).ok();
         }
     }
 

@@ -1,4 +1,4 @@
-//! Makes the texts of pairs.
+//! Makes the texts of entries.
 ghost use Rattle.std.specs.Prelude.{◌≡◌, ◌≤◌, ◌+◌, ◌^◌, ◌++◌, drop, flat_map, length, take, IfSome};
 ghost use Rattle.std.specs.Option.{option_to_list};
 ghost use Rattle.set_line.specs.Width.{total_width};
@@ -7,8 +7,8 @@ ghost use Rattle.line_records.specs.Boxes.{item_text};
 ghost use Rattle.line_records.specs.Cells.{IsTextOf, total_tally};
 
 use crate::RecordFormat;
-use crate::adding::{Added, Passed};
-use crate::pair::{BYTES, Pair, SKIPPED};
+use crate::adding::{ByteAddition, StepAddition};
+use crate::text_entry::{BYTES, SKIPPED, TextEntry};
 use lig_kern::Item;
 use set_line::write_item_text;
 
@@ -35,7 +35,7 @@ fn write_some(text: &mut [u8], end: usize, item: Option<Item>, format: RecordFor
 /// Writes the texts of the items that a step past a symbol adds, so that they end at the index `end`, and
 /// returns their start.
 #[tactic(auto, using(crate::proofs::AddingLemmas::texts))]
-fn write_passed(text: &mut [u8], end: usize, passed: &Passed, format: RecordFormat) -> usize
+fn write_passed(text: &mut [u8], end: usize, passed: &StepAddition, format: RecordFormat) -> usize
     requires { (44 ≤ end) × (end ≤ length text.old) }
     ensures place { (result ≤ end) × (end ≤ result + 44) }
     ensures written { drop result text.new ≡ flat_map (item_text format) passed.now.items ++ drop end text.old }
@@ -46,7 +46,7 @@ fn write_passed(text: &mut [u8], end: usize, passed: &Passed, format: RecordForm
 
 /// Writes the texts of the items that a byte adds, so that they end at the index 66, and returns their start.
 #[tactic(auto, using(crate::proofs::AddingLemmas::texts))]
-fn write_added(text: &mut [u8], added: &Added, format: RecordFormat) -> usize
+fn write_added(text: &mut [u8], added: &ByteAddition, format: RecordFormat) -> usize
     requires { 66 ≤ length text.old }
     ensures place { result ≤ 66 }
     ensures written { drop result text.new ≡ flat_map (item_text format) added.now.items ++ drop 66 text.old }
@@ -82,7 +82,7 @@ fn padded(text: &[u8]) -> Option<[u8; BYTES]>
 
 /// Returns the width of the items that a step past a symbol adds, in sp.
 #[tactic(auto, using(crate::proofs::AddingLemmas::widths))]
-fn passed_width(passed: &Passed) -> i64
+fn passed_width(passed: &StepAddition) -> i64
     ensures sum { result ≡ total_width passed.now.items }
     ensures narrow { IsWithin (2 ^ 32) result }
 {
@@ -91,7 +91,7 @@ fn passed_width(passed: &Passed) -> i64
 
 /// Returns the width of the items that a byte adds, in sp.
 #[tactic(auto, using(crate::proofs::AddingLemmas::widths))]
-fn added_width(added: &Added) -> i64
+fn added_width(added: &ByteAddition) -> i64
     ensures sum { result ≡ total_width added.now.items }
     ensures narrow { IsWithin (2 ^ 40) result }
 {
@@ -113,7 +113,7 @@ fn tally(item: Option<Item>) -> usize
 
 /// Returns the tally of the items that a byte adds.
 #[tactic(auto, using(crate::proofs::AddingLemmas::tallies))]
-fn added_tally(added: &Added) -> usize
+fn added_tally(added: &ByteAddition) -> usize
     ensures sum { result ≡ total_tally added.now.items }
     ensures few { length added.now.items ≤ 3 }
     ensures small { result ≤ 2 ^ 34 }
@@ -122,9 +122,9 @@ fn added_tally(added: &Added) -> usize
     tally(passed.character) + tally(passed.kern) + tally(added.cut)
 }
 
-/// Returns the pair of what a byte adds, or `None` if its text is too long.
+/// Returns the entry of what a byte adds, or `None` if its text is too long.
 #[tactic(auto, using(crate::proofs::AddingLemmas::texts))]
-pub(crate) fn make_pair(added: &Added, format: RecordFormat) -> Option<Pair>
+pub(crate) fn make_entry(added: &ByteAddition, format: RecordFormat) -> Option<TextEntry>
     ensures { IfSome result (IsTextOf format added.now) }
 {
     let mut room = [0; ROOM];
@@ -136,7 +136,7 @@ pub(crate) fn make_pair(added: &Added, format: RecordFormat) -> Option<Pair>
     if steps > 1 {
         return None;
     }
-    Some(Pair {
+    Some(TextEntry {
         text: bytes,
         length: text.len(),
         steps: usize::from(steps),

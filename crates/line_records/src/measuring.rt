@@ -4,7 +4,7 @@ ghost use Rattle.std.specs.Int.{int_max};
 ghost use Rattle.line_records.specs.Boxes.{box_record, box_text, depth_of, height_of, largest, numbers_text};
 ghost use Rattle.line_records.specs.Kept.{as_box};
 
-use crate::keeping::Kept;
+use crate::keeping::KeptLine;
 use set_line::RecordNumber;
 use std::alloc::AllocError;
 use tex_sizes::{LengthUnit, push_length};
@@ -76,7 +76,7 @@ fn push_numbers(text: &mut Vec<u8>, spaces: usize, skipped: usize) -> Result<(),
 fn push_box(
     text: &mut Vec<u8>,
     unit: LengthUnit,
-    kept: Kept,
+    kept: KeptLine,
     extent: Extent,
 ) -> Result<(), AllocError>
     ensures { OnOk result (text.new.items ≡ text.old.items ++ box_text unit (as_box kept extent)) }
@@ -93,7 +93,7 @@ pub(crate) fn append_box(
     out: &mut Vec<u8>,
     number: RecordNumber,
     unit: LengthUnit,
-    kept: Kept,
+    kept: KeptLine,
     extent: Extent,
 ) -> Result<(), AllocError>
     ensures { OnOk result (out.new.items ≡ out.old.items

@@ -4,8 +4,8 @@ ghost use Rattle.line_records.specs.Cells.{AreCells, Style};
 ghost use Rattle.line_records.specs.Written.{IsNext, IsSmall, IsStep};
 
 use crate::cells::LIGATURE;
-use crate::pair::{BYTES, Pair};
-use crate::written::Written;
+use crate::line_state::LineState;
+use crate::text_entry::{BYTES, TextEntry};
 
 /// Copies bytes to a slice of the same length.
 fn put(place: &mut [u8], bytes: &[u8; BYTES])
@@ -23,16 +23,16 @@ fn put(place: &mut [u8], bytes: &[u8; BYTES])
 /// if it is one for the general way, or if `room` has no 32 bytes left.
 pub(crate) fn step(
     cells: &[u16],
-    pairs: &[Pair],
+    entries: &[TextEntry],
     next: usize,
-    before: Written,
+    before: LineState,
     room: &mut [u8],
-) -> Option<Written>
+) -> Option<LineState>
     requires cells { length cells.now ≡ 65792 }
     requires next { next < 257 }
     requires room { before.length ≤ length room.old }
     requires small { IsSmall 65535 before }
-    ensures step { (style : Style) → AreCells style pairs.now cells.now
+    ensures step { (style : Style) → AreCells style entries.now cells.now
         → IfSome result (IsStep style before next room.old room.new) }
     ensures room { length room.new ≡ length room.old }
     ensures unchanged { IsNone result → room.new ≡ room.old }
@@ -40,25 +40,25 @@ pub(crate) fn step(
     ensures next { IfSome result (IsNext before) }
 {
     let cell = usize::from(cells[256 * next + before.row]);
-    if cell < pairs.len() {
+    if cell < entries.len() {
         if room.len() < BYTES || before.length > room.len() - BYTES {
             return None;
         }
-        let pair = &pairs[cell];
+        let entry = &entries[cell];
         let end = before.length + BYTES;
-        put(&mut room[before.length..end], &pair.text);
-        return Some(Written {
+        put(&mut room[before.length..end], &entry.text);
+        return Some(LineState {
             row: next % 256,
-            length: before.length + pair.length,
-            steps: before.steps + pair.steps,
-            tally: before.tally + pair.tally,
-            width: before.width + pair.width,
+            length: before.length + entry.length,
+            steps: before.steps + entry.steps,
+            tally: before.tally + entry.tally,
+            width: before.width + entry.width,
         });
     }
     if cell < LIGATURE {
         return None;
     }
-    Some(Written {
+    Some(LineState {
         row: cell - LIGATURE,
         length: before.length,
         steps: before.steps + 1,

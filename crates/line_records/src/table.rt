@@ -4,7 +4,7 @@ ghost use Rattle.line_records.specs.Cells.{Fits, style_of};
 
 use crate::RecordFormat;
 use crate::cells::{UNKNOWN, make_cell};
-use crate::pair::Pair;
+use crate::text_entry::TextEntry;
 use set_line::{Policy, Terms};
 use std::alloc::{AllocError, Global};
 use std::marker::Model;
@@ -16,18 +16,18 @@ const CELLS: usize = 65_792;
 
 /// The table of texts of a font, for a missing-character policy and a record format.
 #[derive(Drop)]
-pub(crate) struct PairTable {
+pub(crate) struct TextTable {
     /// The cells, column by column.
     pub cells: Vec<u16>,
-    /// The pairs whose indices are in cells.
-    pub pairs: Vec<Pair>,
+    /// The entries whose indices are in cells.
+    pub entries: Vec<TextEntry>,
     policy: Policy,
     pub format: RecordFormat,
     /// For the proof: the font.
     font: Snapshot<Font>,
 }
 
-impl Model for PairTable {
+impl Model for TextTable {
     ghost use Rattle.line_records.specs.Cells.{AreCells, Style};
 
     ghost Value = { Style };
@@ -35,10 +35,10 @@ impl Model for PairTable {
     ghost view = { λ t. record { font = t.font.value; policy = t.policy; format = t.format } };
 
     ghost invariant = { λ t.
-        AreCells (record { font = t.font.value; policy = t.policy; format = t.format }) t.pairs.items t.cells.items };
+        AreCells (record { font = t.font.value; policy = t.policy; format = t.format }) t.entries.items t.cells.items };
 }
 
-impl PairTable {
+impl TextTable {
     /// Returns the table of a font, in which no cell is made yet. Fails if an allocation fails.
     #[tactic(auto, using(crate::proofs::CellLemmas::tables))]
     pub fn new(alloc: Global, terms: &Terms, format: RecordFormat) -> Result<Self, AllocError>
@@ -46,9 +46,9 @@ impl PairTable {
     {
         let mut cells = Vec::new(alloc);
         cells.resize(CELLS, UNKNOWN as u16)?;
-        Ok(PairTable {
+        Ok(TextTable {
             cells,
-            pairs: Vec::new(alloc),
+            entries: Vec::new(alloc),
             policy: terms.policy(),
             format,
             font: Snapshot::of(terms.font()),
@@ -67,7 +67,7 @@ impl PairTable {
         if usize::from(self.cells[at]) != UNKNOWN {
             return;
         }
-        let cell = make_cell(terms, self.format, row as u8, next, &mut self.pairs);
+        let cell = make_cell(terms, self.format, row as u8, next, &mut self.entries);
         self.cells[at] = cell as u16;
     }
 }

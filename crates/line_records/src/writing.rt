@@ -4,10 +4,10 @@ ghost use Rattle.line_records.specs.Cells.{Fits};
 ghost use Rattle.line_records.specs.Written.{IsNext, IsSmall, IsStep, IsWhole, IsWritten};
 
 use crate::adding::END;
-use crate::pair::BYTES;
+use crate::line_state::LineState;
 use crate::stepping::step;
-use crate::table::PairTable;
-use crate::written::Written;
+use crate::table::TextTable;
+use crate::text_entry::BYTES;
 use set_line::Terms;
 use std::alloc::AllocError;
 
@@ -15,7 +15,7 @@ use std::alloc::AllocError;
 const LEAST: usize = 4_096;
 
 /// A line of which nothing is written: the left boundary is current.
-const START: Written = Written {
+const START: LineState = LineState {
     row: 32,
     length: 0,
     steps: 0,
@@ -28,12 +28,12 @@ const START: Written = Written {
 /// of the line, and how far the line is written.
 #[tactic(auto, using(crate::proofs::WrittenLemmas::steps))]
 fn advance(
-    table: &PairTable,
+    table: &TextTable,
     line: &[u8],
     from: usize,
-    before: Written,
+    before: LineState,
     room: &mut [u8],
-) -> (usize, Written)
+) -> (usize, LineState)
     requires short { length line.now ≤ 65535 }
     requires from { from ≤ length line.now }
     requires small { IsSmall from before }
@@ -46,10 +46,10 @@ fn advance(
         → IsWritten table.now line.now (drop result.0 line.now) room.new result.1 }
 {
     let cells = table.cells.as_slice();
-    let pairs = table.pairs.as_slice();
+    let entries = table.entries.as_slice();
     let mut so_far = before;
     for at in from..line.len() {
-        match step(cells, pairs, usize::from(line[at]), so_far, room) {
+        match step(cells, entries, usize::from(line[at]), so_far, room) {
             Some(after) => so_far = after,
             None => return (at, so_far),
         }
@@ -74,12 +74,12 @@ fn make_room(room: &mut Vec<u8>, length: usize) -> Result<(), AllocError>
 /// in the general way.
 #[tactic(auto, using(crate::proofs::WrittenLemmas::steps))]
 fn step_anew(
-    table: &mut PairTable,
+    table: &mut TextTable,
     terms: &Terms,
     next: usize,
-    before: Written,
+    before: LineState,
     room: &mut Vec<u8>,
-) -> Option<Written>
+) -> Option<LineState>
     requires fits { Fits table.old terms.now }
     requires next { next < 257 }
     requires room { before.length ≤ vec_len room.old }
@@ -95,7 +95,7 @@ fn step_anew(
     }
     step(
         table.cells.as_slice(),
-        table.pairs.as_slice(),
+        table.entries.as_slice(),
         next,
         before,
         room.as_mut_slice(),
@@ -107,11 +107,11 @@ fn step_anew(
 /// written.
 #[tactic(auto, using(crate::proofs::WrittenLemmas::steps))]
 pub(crate) fn write_line(
-    table: &mut PairTable,
+    table: &mut TextTable,
     terms: &Terms,
     line: &[u8],
     room: &mut Vec<u8>,
-) -> Result<Written, usize>
+) -> Result<LineState, usize>
     requires fits { Fits table.old terms.now }
     requires short { length line.now ≤ 65535 }
     ensures table { table.new ≡ table.old }

@@ -192,7 +192,7 @@ fn has_result<R: Abort>(rt: &R, writer: &mut LineWriter, terms: &Terms, line: &[
 
 /// The line has the 3,328 pairs of a character A to Z and a byte that is skipped, and as many texts in the table. The
 /// width is 3,328 * 327,680 sp.
-// Mutant: `MOST_PAIRS` of `cells.rt`, the largest number of texts, is 40, or 1,000.
+// Mutant: `MOST_ENTRIES` of `cells.rt`, the largest number of texts, is 40, or 1,000.
 #[test]
 fn a_line_with_3328_texts_is_set_by_the_table(rt: HostRuntime) -> Result<(), Fail> {
     let sample = Sample {

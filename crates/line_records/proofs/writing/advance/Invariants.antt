@@ -5,7 +5,7 @@ use Rattle.line_records.proofs.writing.advance.Given as goal
 
 abbrev pub invariant-loop-at : goal.invariant-loop-at
 invariant-loop-at l = record {
-  cells : AreCells l.table l.pairs l.cells;
+  cells : AreCells l.table l.entries l.cells;
   small : IsSmall l.at l.so_far;
   room : length l.room ≡ length l.fn.room;
   within : l.so_far.length ≤ length l.room;

@@ -9,5 +9,5 @@ returns-clause-step c =
     (drop (length c.step.new.room) c.make_room.new.room.items) c.step.result
     (grind (arith, c.make_room.new.room.ok.0)) c.make_room.ensures.kept
     (rw c.as_mut_slice.ensures.value at (c.step.ensures.step c.args.table.now
-    (rw c.as_slice.ensures.value (rw c.as_slice-2.ensures.value (subst (λ f. AreCells f c.table.inside.pairs.items c.table.inside.cells.items)
+    (rw c.as_slice.ensures.value (rw c.as_slice-2.ensures.value (subst (λ f. AreCells f c.table.inside.entries.items c.table.inside.cells.items)
     (c.table.view_is ∙ c.make.ensures) c.table.invariant)))))

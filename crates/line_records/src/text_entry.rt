@@ -9,9 +9,9 @@ pub(crate) const BYTES: usize = 32;
 pub(crate) const SKIPPED: usize = 1 << 32;
 
 /// The text and the sums of what a byte adds to a line after a symbol. The numbers are as wide as those that
-/// they are added to, so that each is added by one instruction. A pair has 64 bytes.
+/// they are added to, so that each is added by one instruction. An entry has 64 bytes.
 #[derive(Clone, Copy)]
-pub(crate) struct Pair {
+pub(crate) struct TextEntry {
     /// The text, and unused bytes after it.
     pub text: [u8; BYTES],
     /// The number of bytes of the text.

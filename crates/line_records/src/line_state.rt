@@ -1,7 +1,7 @@
 /// How far a line is written. The row is a `usize` so that there are no unused bytes between the fields: they
 /// would be copied in each step.
 #[derive(Clone, Copy)]
-pub(crate) struct Written {
+pub(crate) struct LineState {
     /// The row of the current symbol in the table, below 256.
     pub row: usize,
     /// The number of bytes of the text.
@@ -10,7 +10,7 @@ pub(crate) struct Written {
     pub steps: usize,
     /// The number of items, plus [`SKIPPED`] for each skipped one.
     ///
-    /// [`SKIPPED`]: crate::pair::SKIPPED
+    /// [`SKIPPED`]: crate::text_entry::SKIPPED
     pub tally: usize,
     /// The width of the items, in sp.
     pub width: i64,
