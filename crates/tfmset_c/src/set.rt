@@ -36,14 +36,14 @@ struct LineCall<'a> {
 /// What is kept from one line to the next one: the items of the line, if they are wanted, or a writer with a table of
 /// texts, which makes no items.
 #[derive(Drop)]
-struct Kept {
+struct LineScratch {
     with_items: bool,
     items: Vec<Item>,
     writer: Option<LineWriter>,
 }
 
 /// Returns what is kept for the lines of this text, before the first one.
-fn kept_for(alloc: Global, text: Text, with_items: bool) -> Kept
+fn scratch_for(alloc: Global, text: Text, with_items: bool) -> LineScratch
     ensures wanted { result.with_items ≡ with_items }
     ensures writer { IfSome result.writer (λ style. Fits style text.entry.terms.now × (with_items ≡ false)) }
 {
@@ -53,7 +53,7 @@ fn kept_for(alloc: Global, text: Text, with_items: bool) -> Kept
         made.prepare(text.terms);
         writer = Some(made);
     }
-    Kept {
+    LineScratch {
         with_items,
         items: Vec::new(alloc),
         writer,
@@ -64,7 +64,7 @@ fn kept_for(alloc: Global, text: Text, with_items: bool) -> Kept
 /// those in `kept`, if they are wanted.
 #[tactic(auto, using(crate::proofs::TextLemmas::bytes_within), unfolding(crate::specs::Options::outcome_within))]
 fn set_within(
-    kept: &mut Kept,
+    kept: &mut LineScratch,
     text: Text,
     left: u64,
     bytes: &[u8],
@@ -118,7 +118,7 @@ fn put_items(items: &mut [TfmsetItem], first: usize, made: &[Item]) -> usize
 /// is room. Returns the numbers of results and items, and the number of items that are wanted. If an allocation fails,
 /// the contents of the arrays are unspecified.
 fn fill(
-    kept: &mut Kept,
+    kept: &mut LineScratch,
     text: Text,
     lines: &mut [TfmsetLine],
     items: &mut [TfmsetItem],
@@ -171,7 +171,7 @@ fn run(
                 crlf,
                 call_limit,
             };
-            let mut kept = kept_for(alloc, text, call.with_items);
+            let mut kept = scratch_for(alloc, text, call.with_items);
             let filled = fill(&mut kept, text, lines, items);
             tell(filled, call.with_items, lines, items, counts)
         }

@@ -43,7 +43,7 @@ pub struct SpanCall<'a> {
 
 /// What is kept from one span to the next one: a setter, and the items of the span if they are wanted.
 #[derive(Drop)]
-struct Kept {
+struct SpanScratch {
     setter: SpanSetter,
     items: Vec<PlacedItem>,
 }
@@ -82,7 +82,7 @@ pub fn open_font<'a>(
 /// index of its first item. Its items replace those in `kept`, if they are wanted.
 #[tactic(auto, unfolding(crate::specs::Spans::span_within))]
 fn set_within(
-    kept: &mut Kept,
+    kept: &mut SpanScratch,
     job: &SpanJob<'_>,
     left: u64,
     first: usize,
@@ -136,7 +136,7 @@ fn fill_spans(
         (spans_told (job_terms font job.now.text.now job.now.limit) job.now.call_limit 0 job.now.spans.now))
         filled.0 filled.1 lines.old lines.new items.old items.new) }
 {
-    let mut kept = Kept {
+    let mut kept = SpanScratch {
         setter: SpanSetter::new(alloc),
         items: Vec::new(alloc),
     };

@@ -7,4 +7,4 @@ returns-in-Ok-clause-font c = answered _ _ _ c.in-Some.ensures.1 c.in-Ok.ensures
 pub returns-in-Ok-clause-told : goal.returns-in-Ok-clause-told
 returns-in-Ok-clause-told c =
     rw (outcomes_are c.args.call.font.now c.args.call.text.now c.args.call.options.now _ _ c.in-Some.ensures.0 c.in-Ok.ensures.ok) at
-    (c.tell.ensures.told _ _ _ _ (rw c.kept_for-kept.ensures.wanted at c.fill-filled.ensures))
+    (c.tell.ensures.told _ _ _ _ (rw c.scratch_for-kept.ensures.wanted at c.fill-filled.ensures))
