@@ -11,7 +11,7 @@ use Rattle.batch.specs.Events.{Event, LaneEvent, Answered, Ended, answers_among,
 use Rattle.run_texts.specs.Streaming.{SourceLine, merged_text, of_source}
 use Rattle.run_texts.specs.LaneText.{event_lines, events_lines, records_of, refused_of}
 use Rattle.run_texts.specs.StreamState.{AreCounts, AreLinesOf, IsCountOf}
-use Rattle.run_texts.specs.declared.lane_count.LaneCount.{LaneCount}
+use Rattle.run_texts.specs.declared.record_count.RecordCount.{RecordCount}
 use Rattle.run_texts.proofs.EventLemmas.{among_ended, cond_append, lines_more, of_lane_more, of_lane_other, other_test, records_more, refused_more}
 
 -- ---- lines of sources
@@ -91,7 +91,7 @@ event_lined version events lines lane event texts is so_far = (
 -- ---- counts
 
 -- one block more
-pub count_answered : (count new : LaneCount) (lane : ℕ) (events : List (Event ChunkTextValue)) (block : ChunkTextValue) → IsCountOf count (answers_in lane events)
+pub count_answered : (count new : RecordCount) (lane : ℕ) (events : List (Event ChunkTextValue)) (block : ChunkTextValue) → IsCountOf count (answers_in lane events)
     → new.records ≡ count.records + block.lines → new.refused ≡ count.refused + block.refused
     → IsCountOf new (answers_in lane (events ++ (lane, Answered block) ∷ []))
 count_answered count new lane events block was records refused =
@@ -102,14 +102,14 @@ count_answered count new lane events block was records refused =
     )
 
 -- an end
-pub count_ended : (count : LaneCount) (lane : ℕ) (events : List (Event ChunkTextValue)) (end : LaneEnd) → IsCountOf count (answers_in lane events)
+pub count_ended : (count : RecordCount) (lane : ℕ) (events : List (Event ChunkTextValue)) (end : LaneEnd) → IsCountOf count (answers_in lane events)
     → IsCountOf count (answers_in lane (events ++ (lane, Ended end) ∷ []))
 count_ended count lane events end was =
     let all : answers_in lane (events ++ (lane, Ended end) ∷ []) ≡ answers_in lane events =
     ap answers_among (of_lane_more lane lane events (Ended end) refl) ∙ among_ended (of_lane lane events) end in
     (was.0 ∙ sym (ap records_of all), was.1 ∙ sym (ap refused_of all))
 
-pub counts_at : (events : List (Event ChunkTextValue)) (number i n : ℕ) (counts : List LaneCount) (d : LaneCount)
+pub counts_at : (events : List (Event ChunkTextValue)) (number i n : ℕ) (counts : List RecordCount) (d : RecordCount)
     → n ≡ number + i → i < length counts → AreCounts events number counts → IsCountOf (get_or counts i d) (answers_in n events)
 counts_at events number i n [] d at within are = absurd (omega (arith, within))
 counts_at events number zero n (count ∷ counts) d at within are =
@@ -118,19 +118,19 @@ counts_at events number (suc i) n (count ∷ counts) d at within are =
     counts_at events (number + 1) i n counts d (omega arith) (omega (arith, within)) are.1
 
 -- what came of another lane
-count_same : (count : LaneCount) (number n : ℕ) (events : List (Event ChunkTextValue)) (event : LaneEvent ChunkTextValue) → (n ≡ number → ⊥)
+count_same : (count : RecordCount) (number n : ℕ) (events : List (Event ChunkTextValue)) (event : LaneEvent ChunkTextValue) → (n ≡ number → ⊥)
     → IsCountOf count (answers_in number events) → IsCountOf count (answers_in number (events ++ (n, event) ∷ []))
 count_same count number n events event differs is =
     subst (λ xs. IsCountOf count (answers_among xs)) (sym (of_lane_other number n events event (other_test n number differs))) is
 
-counts_same : (events : List (Event ChunkTextValue)) (n : ℕ) (event : LaneEvent ChunkTextValue) (number : ℕ) (counts : List LaneCount)
+counts_same : (events : List (Event ChunkTextValue)) (n : ℕ) (event : LaneEvent ChunkTextValue) (number : ℕ) (counts : List RecordCount)
     → n < number → AreCounts events number counts → AreCounts (events ++ (n, event) ∷ []) number counts
 counts_same events n event number [] before are = tt
 counts_same events n event number (count ∷ counts) before are =
     (count_same count number n events event (λ (e : n ≡ number). omega arith) are.0, counts_same events n event (number + 1) counts (omega arith) are.1)
 
 -- one event more
-pub counts_set : (events : List (Event ChunkTextValue)) (number i n : ℕ) (counts : List LaneCount) (event : LaneEvent ChunkTextValue) (new : LaneCount)
+pub counts_set : (events : List (Event ChunkTextValue)) (number i n : ℕ) (counts : List RecordCount) (event : LaneEvent ChunkTextValue) (new : RecordCount)
     → n ≡ number + i → i < length counts → IsCountOf new (answers_in n (events ++ (n, event) ∷ []))
     → AreCounts events number counts → AreCounts (events ++ (n, event) ∷ []) number (set counts i new)
 counts_set events number i n [] event new at within is are = absurd (omega (arith, within))
@@ -143,7 +143,7 @@ counts_set events number (suc i) n (count ∷ counts) event new at within is are
 )
 
 -- no lane has come yet
-pub counts_more : (number : ℕ) (counts : List LaneCount) (count : LaneCount) → count.records ≡ 0 → count.refused ≡ 0
+pub counts_more : (number : ℕ) (counts : List RecordCount) (count : RecordCount) → count.records ≡ 0 → count.refused ≡ 0
     → AreCounts [] number counts → AreCounts [] number (counts ++ count ∷ [])
 counts_more number [] count answers refused are = ((answers, refused), tt)
 counts_more number (c ∷ counts) count answers refused are = (are.0, counts_more (number + 1) counts count answers refused are.1)

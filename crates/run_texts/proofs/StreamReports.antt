@@ -26,7 +26,7 @@ use Rattle.run_texts.specs.Streaming.{AreOfSources, HaveLines, IsStreamed, Sourc
 use Rattle.run_texts.specs.ChunkLanes.{AreClosedIn, AreRecordsOf}
 use Rattle.run_texts.specs.StreamState.{AreCounts, AreLinesOf, AreOut, IsCountOf, StreamStart}
 use Rattle.run_texts.specs.LaneText.{events_lines}
-use Rattle.run_texts.specs.declared.lane_count.LaneCount.{LaneCount}
+use Rattle.run_texts.specs.declared.record_count.RecordCount.{RecordCount}
 use Rattle.run_texts.specs.declared.summary.Summary.{Summary}
 use Rattle.run_texts.proofs.EventLemmas.{lane_joined, lane_lined}
 use Rattle.run_texts.proofs.ReportLemmas.{AreRefused, HasEnd, are_reported, as_many, end_or, reports_of, some_end, summary_of_reports}
@@ -35,13 +35,13 @@ use Rattle.run_texts.proofs.StreamSteps.{StandsSo}
 
 -- ---- the lines of a lane
 
-counts_refused : (events : List (Event ChunkTextValue)) (number : ℕ) (counts : List LaneCount) → AreCounts events number counts
-    → AreRefused events (λ (count : LaneCount). count.refused) number counts
+counts_refused : (events : List (Event ChunkTextValue)) (number : ℕ) (counts : List RecordCount) → AreCounts events number counts
+    → AreRefused events (λ (count : RecordCount). count.refused) number counts
 counts_refused events number [] are = tt
 counts_refused events number (c ∷ counts) are = (are.0.1, omega (arith, c.few, are.0.0), counts_refused events (number + 1) counts are.1)
 
 -- the lines of a source of which this came
-own_lines : (style : RecordStyle) (events : List (Event ChunkTextValue)) (lines : List SourceLine) (number : ℕ) (answers : List AnswerValue) (end : LaneEnd) (count : LaneCount)
+own_lines : (style : RecordStyle) (events : List (Event ChunkTextValue)) (lines : List SourceLine) (number : ℕ) (answers : List AnswerValue) (end : LaneEnd) (count : RecordCount)
     → AreLinesOf (version_of style.format) events lines → of_lane number events ≡ lane_events (answers_in number events) (Some end)
     → AreRecordsOf (number + 1) style answers (answers_in number events) → IsCountOf count (answers_in number events)
     → of_source (number + 1) lines ≡ lane_lines (number + 1) style answers end
@@ -83,7 +83,7 @@ of_sources version events lines sources are none =
 module _ {S : Type 0} where
   -- the lines of the reports
   have_lines : (to_come : S → Option (List (List ℕ))) (failed : S → Option SourceFault) (style : RecordStyle) (events : List (Event ChunkTextValue)) (lines : List SourceLine)
-      (number next : ℕ) (sources : List (S × Arc TermsValue Global)) (lanes : List (ClosedLane S)) (counts : List LaneCount) → next ≡ number + 1
+      (number next : ℕ) (sources : List (S × Arc TermsValue Global)) (lanes : List (ClosedLane S)) (counts : List RecordCount) → next ≡ number + 1
       → (closed : AreClosedIn to_come failed style events number sources lanes) → All (λ lane. IsSome lane.end) lanes → AreLinesOf (version_of style.format) events lines
       → length counts ≡ length sources → AreCounts events number counts
       → HaveLines next style (reports_of to_come failed style events number sources lanes closed) lines
@@ -104,7 +104,7 @@ module _ {S : Type 0} where
       )
 
   module _ (to_come : S → Option (List (List ℕ))) (failed : S → Option SourceFault) (style : RecordStyle) (events : List (Event ChunkTextValue))
-      (sources : List (S × Arc TermsValue Global)) (lanes : List (ClosedLane S)) (counts : List LaneCount) (before w : Option (List ℕ)) (block : List ℕ)
+      (sources : List (S × Arc TermsValue Global)) (lanes : List (ClosedLane S)) (counts : List RecordCount) (before w : Option (List ℕ)) (block : List ℕ)
       (closed : AreClosedIn to_come failed style events 0 sources lanes) (none : HasNoOthers events (length sources))
       (long : length counts ≡ length sources) (are : AreCounts events 0 counts) where
     -- all was written
@@ -124,7 +124,7 @@ module _ {S : Type 0} where
             ),
             subst (Appends before after) all (appends_more before w after written block appends rest),
           ),
-          is ∙ summary_of_reports to_come failed style events (λ (count : LaneCount). count.refused) sources lanes counts closed whole
+          is ∙ summary_of_reports to_come failed style events (λ (count : RecordCount). count.refused) sources lanes counts closed whole
               (counts_refused events 0 counts are) long,
         )
 
@@ -136,7 +136,7 @@ of_ok P (Err e) x is h = absurd (cc)
 -- ---- how a run ends
 
 module _ {S : Type 0} (to_come : S → Option (List (List ℕ))) (failed : S → Option SourceFault) (sources : List (S × Arc TermsValue Global))
-    (lanes : List (ClosedLane S)) (start : StreamStart) (name : ℕ) (version : Version) (counts : List LaneCount) (w w' : Option (List ℕ)) (block : List ℕ) where
+    (lanes : List (ClosedLane S)) (start : StreamStart) (name : ℕ) (version : Version) (counts : List RecordCount) (w w' : Option (List ℕ)) (block : List ℕ) where
   -- what a stream was given in a run
   abbrev pub Came : Type 0
   Came =

@@ -13,12 +13,12 @@ use Rattle.run_texts.specs.RunText.{end_text, head_text, why_of}
 use Rattle.run_texts.specs.Streaming.{merged_text}
 use Rattle.run_texts.specs.LaneText.{chunk_lines, event_lines, records_of}
 use Rattle.run_texts.specs.StreamState.{AreCounts, AreOut, MovesOut, IsCountOf, StreamStart}
-use Rattle.run_texts.specs.declared.lane_count.LaneCount.{LaneCount}
+use Rattle.run_texts.specs.declared.record_count.RecordCount.{RecordCount}
 use Rattle.run_texts.proofs.StreamLemmas.{appends_nothing, moves_more, nothing_appended}
 use Rattle.run_texts.proofs.StreamEvents.{count_answered, count_ended, counts_at, counts_set, event_lined, merged_more, sourced}
 
 -- how a stream stands that began so and was given these events
-abbrev pub StandsSo : StreamStart → ℕ → Version → List LaneCount → Option (List ℕ) → List ℕ → List (Event ChunkTextValue) → Type 0
+abbrev pub StandsSo : StreamStart → ℕ → Version → List RecordCount → Option (List ℕ) → List ℕ → List (Event ChunkTextValue) → Type 0
 StandsSo start name version counts written block events =
     (name ≡ start.name)
     × (version ≡ (version_of start.style.format))
@@ -42,7 +42,7 @@ out_more version events before after block block' lane event texts is more (line
 )
 
 -- some of the block was written
-pub goes_on : (start : StreamStart) (name name' : ℕ) (version version' : Version) (counts counts' : List LaneCount) (w w' : Option (List ℕ)) (b b' : List ℕ) (events : List (Event ChunkTextValue))
+pub goes_on : (start : StreamStart) (name name' : ℕ) (version version' : Version) (counts counts' : List RecordCount) (w w' : Option (List ℕ)) (b b' : List ℕ) (events : List (Event ChunkTextValue))
     → name' ≡ name → version' ≡ version → counts' ≡ counts → MovesOut w b w' b'
     → StandsSo start name version counts w b events → StandsSo start name' version' counts' w' b' events
 goes_on start name name' version version' counts counts' w w' b b' events same_name same_version same_counts moves (named, form, lanes, are, (lines, lined, out)) = (
@@ -54,20 +54,20 @@ goes_on start name name' version version' counts counts' w w' b b' events same_n
 )
 
 -- the writer was flushed
-pub flushed : (start : StreamStart) (name : ℕ) (version : Version) (counts : List LaneCount) (w w' : Option (List ℕ)) (b : List ℕ) (events : List (Event ChunkTextValue))
+pub flushed : (start : StreamStart) (name : ℕ) (version : Version) (counts : List RecordCount) (w w' : Option (List ℕ)) (b : List ℕ) (events : List (Event ChunkTextValue))
     → Keeps w w' → StandsSo start name version counts w b events → StandsSo start name version counts w' b events
 flushed start name version counts w w' b events keeps stands =
     goes_on start name name version version counts counts w w' b b events refl refl refl ([], nothing_appended w w' keeps, refl) stands
 
 -- a stream begins
-pub begins : (name : ℕ) (style : RecordStyle) (version : Version) (counts : List LaneCount) (w : Option (List ℕ)) (block : List ℕ) → version ≡ version_of style.format → AreCounts [] 0 counts
+pub begins : (name : ℕ) (style : RecordStyle) (version : Version) (counts : List RecordCount) (w : Option (List ℕ)) (block : List ℕ) → version ≡ version_of style.format → AreCounts [] 0 counts
     → block ≡ head_text version → StandsSo (record { before = w; name = name; style = style; lanes = length counts }) name version counts w block []
 begins name style version counts w block asked none is =
     (refl, asked, refl, none, ([], (refl, λ lane. refl), ([], appends_nothing w, is ∙ ap head_text asked ∙ sym (append-nil (head_text (version_of style.format))))))
 
 -- the text of a block was taken
-pub taken : (start : StreamStart) (name : ℕ) (version : Version) (counts : List LaneCount) (w : Option (List ℕ)) (b b' : List ℕ) (events : List (Event ChunkTextValue))
-    (lane : ℕ) (block : ChunkTextValue) (count new : LaneCount)
+pub taken : (start : StreamStart) (name : ℕ) (version : Version) (counts : List RecordCount) (w : Option (List ℕ)) (b b' : List ℕ) (events : List (Event ChunkTextValue))
+    (lane : ℕ) (block : ChunkTextValue) (count new : RecordCount)
     → lane < length counts → count ≡ get_or counts lane count
     → b' ≡ b ++ concat (chunk_lines block)
     → new.records ≡ count.records + block.lines → new.refused ≡ count.refused + block.refused
@@ -83,8 +83,8 @@ taken start name version counts w b b' events lane block count new within at mor
     )
 
 -- an end was taken
-pub ended : (start : StreamStart) (name : ℕ) (version : Version) (counts : List LaneCount) (w : Option (List ℕ)) (b b' : List ℕ) (events : List (Event ChunkTextValue))
-    (lane : ℕ) (end : LaneEnd) (count : LaneCount)
+pub ended : (start : StreamStart) (name : ℕ) (version : Version) (counts : List RecordCount) (w : Option (List ℕ)) (b b' : List ℕ) (events : List (Event ChunkTextValue))
+    (lane : ℕ) (end : LaneEnd) (count : RecordCount)
     → lane < length counts → count ≡ get_or counts lane count
     → b' ≡ b ++ end_text (lane + 1) version (why_of end) count.records
     → StandsSo start name version counts w b events → StandsSo start name version counts w b' (events ++ (lane, Ended end) ∷ [])

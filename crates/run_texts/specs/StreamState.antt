@@ -9,7 +9,7 @@ use Rattle.line_chunks.specs.ChunkText.{ChunkTextValue, RecordStyle}
 use Rattle.run_texts.specs.RunText.{head_text}
 use Rattle.run_texts.specs.LaneText.{events_lines, records_of, refused_of}
 use Rattle.run_texts.specs.Streaming.{SourceLine, merged_text, of_source}
-use Rattle.run_texts.specs.declared.lane_count.LaneCount.{LaneCount}
+use Rattle.run_texts.specs.declared.record_count.RecordCount.{RecordCount}
 use Rattle.run_texts.specs.declared.stream.Stream.{Stream}
 
 -- these are the output lines of these events; the number of a source is the index of its lane plus 1
@@ -19,11 +19,11 @@ AreLinesOf version events lines =
     × ((lane : ℕ) → of_source (lane + 1) lines ≡ events_lines (lane + 1) version 0 (of_lane lane events))
 
 -- the counts are the number of records of these blocks and the number of refused lines among them
-abbrev pub IsCountOf : LaneCount → List ChunkTextValue → Type 0
+abbrev pub IsCountOf : RecordCount → List ChunkTextValue → Type 0
 IsCountOf count texts = (count.records ≡ records_of texts) × (count.refused ≡ refused_of texts)
 
 -- these are the counts of the blocks of each lane; the first lane has this index
-abbrev pub AreCounts : List (Event ChunkTextValue) → ℕ → List LaneCount → Type 0
+abbrev pub AreCounts : List (Event ChunkTextValue) → ℕ → List RecordCount → Type 0
 AreCounts events number [] = Unit {0}
 AreCounts events number (count ∷ counts) = IsCountOf count (answers_in number events) × AreCounts events (number + 1) counts
 

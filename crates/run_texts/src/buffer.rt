@@ -12,11 +12,11 @@ pub(crate) const ROOM: usize = 73_728;
 
 /// A filled buffer of the output of a lane. Nothing more is appended to it.
 #[derive(Drop)]
-pub(crate) struct Buffer {
+pub(crate) struct OutputBuffer {
     bytes: Vec<u8>,
 }
 
-impl Model for Buffer {
+impl Model for OutputBuffer {
     ghost use Rattle.std.specs.Prelude.{ℕ, List};
 
     ghost Value = { List ℕ };
@@ -24,12 +24,12 @@ impl Model for Buffer {
     ghost view = { λ buffer. buffer.bytes.items };
 }
 
-impl Buffer {
+impl OutputBuffer {
     /// Returns a buffer with these bytes.
     pub fn new(bytes: Vec<u8>) -> Self
         ensures { result ≡ bytes.items }
     {
-        Buffer { bytes }
+        OutputBuffer { bytes }
     }
 
     /// Returns the bytes as a slice.

@@ -7,8 +7,8 @@ ghost use Rattle.run_texts.specs.LaneText.{chunk_lines};
 ghost use Rattle.run_texts.specs.RunText.{end_text, why_of};
 
 use crate::ToolFault;
-use crate::buffer::{Buffer, FULL, ROOM};
-use crate::lane_count::{Counted, LaneCount};
+use crate::buffer::{FULL, OutputBuffer, ROOM};
+use crate::record_count::{RecordCount, RefusedCount};
 use crate::writing::write_text;
 use batch::Refusal;
 use lanes::LaneEnd;
@@ -22,9 +22,9 @@ use std::mem;
 /// The output of a source, in buffers. Texts are appended to the last one.
 #[derive(Drop)]
 pub(crate) struct LaneText {
-    full: Vec<Buffer>,
+    full: Vec<OutputBuffer>,
     last: Vec<u8>,
-    count: LaneCount,
+    count: RecordCount,
 }
 
 impl Model for LaneText {
@@ -41,7 +41,7 @@ impl Model for LaneText {
     } };
 }
 
-impl Counted for LaneText {
+impl RefusedCount for LaneText {
     ghost refused = { λ lane. lane.refused };
 
     fn refused(&self) -> u64 {
@@ -50,7 +50,7 @@ impl Counted for LaneText {
 }
 
 /// Writes buffers in order, and frees each when it is written.
-fn write_buffers<W: Write>(full: Vec<Buffer>, out: &mut W) -> Result<(), ToolFault>
+fn write_buffers<W: Write>(full: Vec<OutputBuffer>, out: &mut W) -> Result<(), ToolFault>
     ensures written { OnOk result (Appends (W.contents out.old) (W.contents out.new)
         (concat full.items)) }
     ensures fault { IfErr result (λ fault. fault ≡ ToolFault.Write) }
@@ -69,7 +69,7 @@ impl LaneText {
         LaneText {
             full: Vec::new(alloc),
             last: Vec::new(alloc),
-            count: LaneCount::new(),
+            count: RecordCount::new(),
         }
     }
 
@@ -80,7 +80,7 @@ impl LaneText {
     {
         let alloc = *self.last.allocator();
         let begun = Vec::with_capacity(alloc, ROOM)?;
-        let full = Buffer::new(mem::replace(&mut self.last, begun));
+        let full = OutputBuffer::new(mem::replace(&mut self.last, begun));
         match self.full.push(full) {
             Ok(()) => Ok(()),
             Err(failed) => {

@@ -5,7 +5,7 @@ ghost use Rattle.batch.specs.declared.collector.Refusal.TheVariants.{OutOfMemory
 ghost use Rattle.run_texts.specs.LaneText.{chunk_lines};
 ghost use Rattle.run_texts.specs.RunText.{end_text, head_text, json_end, why_of, words_end};
 
-use crate::lane_count::LaneCount;
+use crate::record_count::RecordCount;
 use batch::Refusal;
 use itoa::Buffer;
 use lanes::{LaneEnd, SourceFault};
@@ -99,13 +99,13 @@ fn push_json_end(
     text.extend_from_slice(b"}\n")
 }
 
-impl LaneCount {
+impl RecordCount {
     /// Returns the counts of a lane without records.
     pub fn new() -> Self
         ensures records { result.records ≡ 0 }
         ensures refused { result.refused ≡ 0 }
     {
-        LaneCount {
+        RecordCount {
             records: 0,
             refused: 0,
         }
@@ -129,7 +129,7 @@ impl LaneCount {
             return Err(Refusal::OutOfMemory);
         }
         text.extend_from_slice(chunk.text())?;
-        *self = LaneCount {
+        *self = RecordCount {
             records: self.records + lines,
             refused: self.refused + refused,
         };

@@ -16,8 +16,8 @@ ghost use Rattle.run_texts.specs.RunText.{bytes_style, lane_text, records_from, 
 ghost use Rattle.run_texts.specs.Setting.{AreOwnReports, HasTerms, IsWritten};
 
 use crate::font_setting::with_font;
-use crate::lane_count::Counted;
 use crate::record::{push_end_line, push_head};
+use crate::record_count::RefusedCount;
 use crate::run_summary::{all_refused, summary_of};
 use crate::{FontSetting, Summary, ToolFault, write_text};
 use batch::Gate;
@@ -50,7 +50,7 @@ fn count_refused(answers: &[Answer]) -> u64
     count
 }
 
-impl<S> Counted for LaneReport<S> {
+impl<S> RefusedCount for LaneReport<S> {
     ghost use Rattle.std.specs.Prelude.{None};
     ghost use Rattle.run_texts.specs.RunText.{refused_lines};
 

@@ -6,13 +6,13 @@ ghost use Rattle.lanes.specs.declared.ending.LaneEnd.{LaneEnd as End};
 ghost use Rattle.run_texts.specs.ReportText.{is_unread, is_wanting, summary_of_ends};
 
 use crate::Summary;
-use crate::lane_count::Counted;
+use crate::record_count::RefusedCount;
 use batch::ClosedLane;
 use lanes::{LaneEnd, SourceFault};
 use set_run::LaneReport;
 
 /// Returns the number of refused lines of all lanes, or 2^64 - 1 if it is larger.
-pub(crate) fn all_refused<C: Counted>(lanes: &[C]) -> u64
+pub(crate) fn all_refused<C: RefusedCount>(lanes: &[C]) -> u64
     ensures { result ≡ min (2 ^ 64 - 1) (sum_by C.refused lanes.now) }
 {
     let mut count: u64 = 0;
@@ -23,7 +23,7 @@ pub(crate) fn all_refused<C: Counted>(lanes: &[C]) -> u64
 }
 
 /// A lane with its end, if it has one.
-pub(crate) trait Ended {
+pub(crate) trait EndedLane {
     /// The end.
     ghost ended: { Self → Option End };
 
@@ -32,7 +32,7 @@ pub(crate) trait Ended {
         ensures { result ≡ ended self.now };
 }
 
-impl<S> Ended for ClosedLane<S> {
+impl<S> EndedLane for ClosedLane<S> {
     ghost ended = { λ lane. lane.end };
 
     fn ended(&self) -> Option<LaneEnd> {
@@ -40,7 +40,7 @@ impl<S> Ended for ClosedLane<S> {
     }
 }
 
-impl<S> Ended for LaneReport<S> {
+impl<S> EndedLane for LaneReport<S> {
     ghost use Rattle.std.specs.Prelude.{Some};
 
     ghost ended = { λ lane. Some lane.end };
@@ -51,7 +51,7 @@ impl<S> Ended for LaneReport<S> {
 }
 
 /// Returns whether a read of some source failed, or a line needed too many reads.
-fn any_unread<L: Ended>(lanes: &[L]) -> bool
+fn any_unread<L: EndedLane>(lanes: &[L]) -> bool
     ensures { result ≡ list_any (λ lane. option_map_or is_unread (L.ended lane) false) lanes.now }
 {
     let mut some = false;
@@ -65,7 +65,7 @@ fn any_unread<L: Ended>(lanes: &[L]) -> bool
 }
 
 /// Returns whether some lane ended because an allocation failed.
-fn any_out_of_memory<L: Ended>(lanes: &[L]) -> bool
+fn any_out_of_memory<L: EndedLane>(lanes: &[L]) -> bool
     ensures { result ≡ list_any (λ lane. option_map_or is_wanting (L.ended lane) false) lanes.now }
 {
     let mut some = false;
@@ -79,7 +79,7 @@ fn any_out_of_memory<L: Ended>(lanes: &[L]) -> bool
 }
 
 /// Returns the summary of a batch with this many refused lines and these lanes.
-pub(crate) fn summary_of<L: Ended>(refused: u64, lanes: &[L]) -> Summary
+pub(crate) fn summary_of<L: EndedLane>(refused: u64, lanes: &[L]) -> Summary
     ensures { (lines : ℕ) → refused ≡ min (2 ^ 64 - 1) lines
         → result ≡ summary_of_ends lines (map L.ended lanes.now) }
 {

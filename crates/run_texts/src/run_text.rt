@@ -21,7 +21,7 @@ use std::io::Write;
 use std::marker::{Brand, PhantomData};
 
 /// For the proof: the number of lanes and the record format of a batch whose output is kept.
-pub(crate) trait Kept {
+pub(crate) trait BatchShape {
     /// The number of lanes.
     ghost lanes: { ℕ };
 
@@ -30,7 +30,7 @@ pub(crate) trait Kept {
 }
 
 /// A placeholder: the proof of the caller chooses both values.
-impl Kept for Brand {
+impl BatchShape for Brand {
     ghost lanes = { 0 };
 
     ghost version = { One };
@@ -38,7 +38,7 @@ impl Kept for Brand {
 
 /// The output of all lanes of a batch.
 #[derive(Drop)]
-pub(crate) struct RunTexts<K: Kept> {
+pub(crate) struct RunTexts<K: BatchShape> {
     pub version: Version,
     pub lanes: Vec<LaneText>,
     /// The numbers of lines of all lanes.
@@ -58,7 +58,7 @@ fn write_lanes<W: Write>(lanes: Vec<LaneText>, out: &mut W) -> Result<(), ToolFa
     Ok(())
 }
 
-impl<K: Kept> RunTexts<K> {
+impl<K: BatchShape> RunTexts<K> {
     /// Returns an empty output for each of this many lanes. Fails if an allocation fails.
     pub fn new(alloc: Global, count: usize, version: Version) -> Result<Self, AllocError>
         ensures version { IfOk result (λ texts. texts.version ≡ version) }
@@ -92,7 +92,7 @@ impl<K: Kept> RunTexts<K> {
     }
 }
 
-impl<K: Kept> Collector for RunTexts<K> {
+impl<K: BatchShape> Collector for RunTexts<K> {
     type Item = ChunkText;
 
     ghost lanes = { λ texts. length texts.lanes.items };

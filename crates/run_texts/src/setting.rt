@@ -12,7 +12,7 @@ ghost use Rattle.run_texts.specs.Setting.{IsWritten};
 
 use crate::chunk_run::chunk_sources;
 use crate::run_summary::{all_refused, summary_of};
-use crate::run_text::{Kept, RunTexts};
+use crate::run_text::{BatchShape, RunTexts};
 use crate::{OutputOptions, Summary, ToolFault};
 use batch::{Gate, MOST_SOURCES, RunFault, run_items};
 use set_line::Terms;
@@ -35,7 +35,7 @@ where
     T: Read + Send + Drop,
     G: Gate + Sync,
     W: Write,
-    K: Kept,
+    K: BatchShape,
     requires lanes { K.lanes ≡ vec_len readers }
     requires version { K.version ≡ version_of options.now.format }
     ensures text { IfOk result (λ summary. (reports : List (Lane Told))

@@ -5,8 +5,8 @@ ghost use Rattle.run_texts.specs.RunText.{head_text};
 ghost use Rattle.run_texts.specs.StreamState.{AreCounts, IsStreamOf, MovesOut, StreamStart};
 
 use crate::buffer::{FULL, ROOM};
-use crate::lane_count::LaneCount;
 use crate::record::push_head;
+use crate::record_count::RecordCount;
 use crate::writing::write_some;
 use batch::Refusal;
 use lanes::LaneEnd;
@@ -20,7 +20,7 @@ use std::io::Write;
 pub(crate) struct Stream<'a, W> {
     pub out: &'a mut W,
     pub buffer: Vec<u8>,
-    pub counts: Vec<LaneCount>,
+    pub counts: Vec<RecordCount>,
     pub lines: LineCounts,
     pub version: Version,
 }
@@ -53,13 +53,13 @@ pub(crate) fn first_buffer(alloc: Global, version: Version) -> Result<Vec<u8>, R
 }
 
 /// Returns the counts of this many lanes without results.
-pub(crate) fn no_answers(alloc: Global, lanes: usize) -> Result<Vec<LaneCount>, AllocError>
+pub(crate) fn no_answers(alloc: Global, lanes: usize) -> Result<Vec<RecordCount>, AllocError>
     ensures lanes { IfOk result (λ counts. length counts.items ≡ lanes) }
     ensures none { IfOk result (λ counts. AreCounts [] 0 counts.items) }
 {
     let mut counts = Vec::with_capacity(alloc, lanes)?;
     for _ in 0..lanes {
-        counts.push(LaneCount::new())?;
+        counts.push(RecordCount::new())?;
     }
     Ok(counts)
 }

@@ -15,7 +15,7 @@ ghost use Rattle.run_texts.specs.Streaming.{IsStreamed};
 ghost use Rattle.run_texts.specs.StreamState.{IsStreamOf};
 
 use crate::chunk_run::chunk_sources;
-use crate::lane_count::LaneCount;
+use crate::record_count::RecordCount;
 use crate::run_summary::{all_refused, summary_of};
 use crate::stream::{Stream, first_buffer, no_answers, write_buffer};
 use crate::{OutputOptions, Summary, ToolFault};
@@ -30,7 +30,7 @@ use std::sync::{Arc, Wait};
 use std::thread::Threads;
 
 /// For the proof: the state of a stream at its start.
-pub(crate) trait Beginning {
+pub(crate) trait StreamBeginning {
     ghost use Rattle.run_texts.specs.StreamState.{StreamStart};
 
     /// The state at the start.
@@ -38,7 +38,7 @@ pub(crate) trait Beginning {
 }
 
 /// A placeholder: the proof of the caller chooses the start.
-impl Beginning for Brand {
+impl StreamBeginning for Brand {
     ghost use Rattle.std.specs.Prelude.{None};
     ghost use Rattle.run_plan.specs.declared.version.Version.TheVariants.{One};
     ghost use Rattle.formats.specs.declared.record_format.RecordFormat.TheVariants.{Items};
@@ -53,12 +53,12 @@ impl Beginning for Brand {
 
 /// The stream of a batch. For the proof: `K` has the state in which it began.
 #[derive(Drop)]
-struct Begun<'a, W, K> {
+struct BatchStream<'a, W, K> {
     stream: Stream<'a, W>,
     of: PhantomData<K>,
 }
 
-impl<W: Write, K: Beginning> Collector for Begun<'_, W, K> {
+impl<W: Write, K: StreamBeginning> Collector for BatchStream<'_, W, K> {
     type Item = ChunkText;
 
     ghost lanes = { λ begun. length begun.stream.counts.items };
@@ -96,7 +96,7 @@ where
     T: Read + Send + Drop,
     G: Gate + Sync,
     W: Write,
-    K: Beginning,
+    K: StreamBeginning,
     requires { vec_len readers ≤ length stream.counts.items }
     ensures collected { IfOk result.1 (λ run. IsCollectedIn lines_told fault_told (style_of options.now)
         (IsStreamOf W.contents K.start) (told_readers T.remaining options.now.crlf readers.items)
@@ -106,7 +106,7 @@ where
     ensures few { vec_len readers ≤ 64
         → IfErr result.1 (λ fault. (fault ≡ NoMemory) ⊎ (fault ≡ Thread)) }
 {
-    let begun: Begun<'a, W, K> = Begun {
+    let begun: BatchStream<'a, W, K> = BatchStream {
         stream,
         of: PhantomData,
     };
@@ -125,7 +125,7 @@ where
 #[tactic(auto, using(crate::proofs::StreamLemmas::moved_out))]
 fn finish<W: Write, S>(
     buffer: &mut Vec<u8>,
-    counts: &[LaneCount],
+    counts: &[RecordCount],
     out: &mut W,
     run: &RunEnd<S>,
 ) -> Result<Summary, ToolFault>

@@ -12,6 +12,6 @@ pub returns : goal.returns
 returns g c = λ lines same.
     ap (λ n. summary_from n c.any_unread.result c.any_out_of_memory.result) same
     ∙ ap (λ b. summary_from (min 18446744073709551615 lines) b c.any_out_of_memory.result)
-    (c.any_unread.ensures ∙ sym (any_mapped (λ end. option_map_or is_unread end false) g.L.Ended.ended c.args.lanes.now))
+    (c.any_unread.ensures ∙ sym (any_mapped (λ end. option_map_or is_unread end false) g.L.EndedLane.ended c.args.lanes.now))
     ∙ ap (summary_from (min 18446744073709551615 lines) _)
-    (c.any_out_of_memory.ensures ∙ sym (any_mapped (λ end. option_map_or is_wanting end false) g.L.Ended.ended c.args.lanes.now))
+    (c.any_out_of_memory.ensures ∙ sym (any_mapped (λ end. option_map_or is_wanting end false) g.L.EndedLane.ended c.args.lanes.now))

@@ -20,7 +20,7 @@ returns-clause-text g c =
     let run : RunEnd (ChunkReader g.row.T.Denot) = c.in-Ok-ran.run' in
     let before : RunTexts g.row.K.Denot = c.in-Ok.texts in
     let after : RunTexts g.row.K.Denot = c.run_items-texts.result.0 in
-    let given = Given (λ (texts : RunTexts g.row.K.Denot). texts.version) (λ texts. texts.lanes.items) g.K.Kept.version g.K.Kept.lanes in
+    let given = Given (λ (texts : RunTexts g.row.K.Denot). texts.version) (λ texts. texts.lanes.items) g.K.BatchShape.version g.K.BatchShape.lanes in
     let ran : c.run_items-texts.result.1 ≡ Ok run = c.in-Ok-ran.is in
     let whole : IsWhole run = rw ran at c.run_items-texts.ensures.whole in
     let are = c.in-Ok-chunk_sources.ensures in
@@ -33,9 +33,9 @@ returns-clause-text g c =
     ∙ ap (λ (items : List (ClosedLane (ChunkReader g.row.T.Denot))). summary_of_ends refused (map (λ lane. lane.end) items)) c.as_slice-2.ensures.value
     ∙ ap (summary_of_ends refused) (sym (ends_told remaining run.lanes.items)) in
     let many = as_many_told remaining crlf c.args.readers.items in
-    let count : g.K.Kept.lanes ≡ length (told_readers remaining crlf c.args.readers.items) = omega (arith, c.requires.lanes, many, c.args.readers.ok.0) in
-    kept_run (λ (texts : RunTexts g.row.K.Denot). texts.version) (λ texts. texts.lanes.items) g.K.Kept.version
-    lines_told fault_told (told_readers remaining crlf c.args.readers.items) lanes before after style g.K.Kept.lanes
+    let count : g.K.BatchShape.lanes ≡ length (told_readers remaining crlf c.args.readers.items) = omega (arith, c.requires.lanes, many, c.args.readers.ok.0) in
+    kept_run (λ (texts : RunTexts g.row.K.Denot). texts.version) (λ texts. texts.lanes.items) g.K.BatchShape.version
+    lines_told fault_told (told_readers remaining crlf c.args.readers.items) lanes before after style g.K.BatchShape.lanes
     (g.W.Write.contents c.args.out.now) (g.W.Write.contents c.write.new.out) c.summary_of-summary.result
     c.requires.version count begun (whole_told remaining run.lanes.items (whole (search rules))) collected (search rules) short
 

@@ -13,7 +13,7 @@ run_items-begun-requires-clause-lanes g c =
 pub returns-in-Ok-clause-collected : goal.returns-in-Ok-clause-collected
 returns-in-Ok-clause-collected g c =
     ok_then c.run_items-begun.result.1 _ _
-    (λ run collected. collected_lines g.T.Read.remaining c.args.options.now.crlf (style_of c.args.options.now) (IsStreamOf g.W.Write.contents g.K.Beginning.start)
+    (λ run collected. collected_lines g.T.Read.remaining c.args.options.now.crlf (style_of c.args.options.now) (IsStreamOf g.W.Write.contents g.K.StreamBeginning.start)
     c.args.stream c.run_items-begun.result.0.stream c.args.readers.items c.in-Ok.sources.items run c.in-Ok.ensures collected)
     c.run_items-begun.ensures.collected
 

@@ -5,6 +5,6 @@ use Rattle.run_texts.proofs.run_text.RunTextsCollector.take.Goals as goal
 
 pub returns-clause-given : goal.returns-clause-given
 returns-clause-given g c =
-    gets_answer (λ (texts : RunTexts g.row.K.Denot). texts.version) (λ texts. texts.lanes.items) g.K.Kept.version g.K.Kept.lanes c.args.self.now _
+    gets_answer (λ (texts : RunTexts g.row.K.Denot). texts.version) (λ texts. texts.lanes.items) g.K.BatchShape.version g.K.BatchShape.lanes c.args.self.now _
     c.args.lane c.args.chunk c.take.result c.index_mut.result.now c.take.new.self
     (search rules) (search rules) (search rules) (search rules) (search rules) (search rules) c.take.ensures.few

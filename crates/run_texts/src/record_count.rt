@@ -2,7 +2,7 @@ ghost use Rattle.std.specs.Prelude.{◌≡◌, ◌≤◌, ◌<◌, ◌+◌, ◌^
 
 /// The number of records of a lane so far, and the number of refused lines among them.
 #[derive(Clone, Copy)]
-pub(crate) struct LaneCount {
+pub(crate) struct RecordCount {
     /// The number of records.
     pub records: u64,
     /// The number of refused lines among them.
@@ -12,7 +12,7 @@ pub(crate) struct LaneCount {
 }
 
 /// A lane whose refused lines are counted.
-pub(crate) trait Counted {
+pub(crate) trait RefusedCount {
     /// The number of refused lines.
     ghost refused: { Self → ℕ };
 
@@ -21,7 +21,7 @@ pub(crate) trait Counted {
         ensures { result ≡ refused self.now };
 }
 
-impl Counted for LaneCount {
+impl RefusedCount for RecordCount {
     ghost refused = { λ count. count.refused };
 
     fn refused(&self) -> u64 {

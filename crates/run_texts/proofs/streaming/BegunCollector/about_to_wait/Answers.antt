@@ -1,4 +1,0 @@
-use Rattle.run_texts.proofs.streaming.BegunCollector.about_to_wait.Goals as goal
-
-pub returns-clause-given : goal.returns-clause-given
-returns-clause-given g c = c.flush.ensures.given g.K.Beginning.start
