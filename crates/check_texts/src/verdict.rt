@@ -8,7 +8,6 @@ ghost use Rattle.check_texts.specs.Verdicts.{AreWarningsOf, IsVerdictOf, is_acce
 use crate::{Warning, strict_warnings};
 use std::alloc::{AllocError, Global};
 use tfm_tables::{FontFault, FontMetrics};
-use tfm_words::Size;
 
 /// The result of the check of a font.
 #[derive(Drop)]
@@ -22,19 +21,13 @@ pub enum Verdict {
 }
 
 impl Verdict {
-    /// Reads a font at `size`, or at its design size for `None`, and returns the verdict on it, which doesn't depend on
-    /// the size. An accepted font has its warnings if `strict` is set. Fails only if the font has no font error and an
-    /// allocation failed.
-    pub fn check(
-        alloc: Global,
-        bytes: &[u8],
-        size: Option<Size>,
-        strict: bool,
-    ) -> Result<Verdict, AllocError>
+    /// Reads a font, and returns the verdict on it. An accepted font has its warnings if `strict` is set. Fails only if
+    /// the font has no font error and an allocation failed.
+    pub fn check(alloc: Global, bytes: &[u8], strict: bool) -> Result<Verdict, AllocError>
         ensures verdict { IfOk result (IsVerdictOf strict bytes.now) }
         ensures memory { IfErr result (λ _. font_fault_of bytes.now ≡ None) }
     {
-        match warnings_of(alloc, bytes, size, strict) {
+        match warnings_of(alloc, bytes, strict) {
             Ok(warnings) => Ok(Verdict::Accepted(warnings)),
             Err(FontFault::OutOfMemory) => Err(AllocError),
             Err(fault) => Ok(Verdict::Refused(fault)),
@@ -69,22 +62,17 @@ impl Verdict {
     }
 }
 
-/// Reads a font at a size. Returns its warnings if `strict` is set, otherwise none. The error is the first font error, or
-/// `OutOfMemory` if an allocation fails.
-fn warnings_of(
-    alloc: Global,
-    bytes: &[u8],
-    size: Option<Size>,
-    strict: bool,
-) -> Result<Vec<Warning>, FontFault>
+/// Reads a font, at its design size, since no rule for fonts depends on the size. Returns its warnings if `strict` is
+/// set, otherwise none. The error is the first font error, or `OutOfMemory` if an allocation fails.
+fn warnings_of(alloc: Global, bytes: &[u8], strict: bool) -> Result<Vec<Warning>, FontFault>
     ensures accepted { IfOk result (λ _. font_fault_of bytes.now ≡ None) }
     ensures warnings { IfOk result (λ found. AreWarningsOf strict bytes.now found.items) }
     ensures fault { IfErr result (IsRefusalOf bytes.now) }
 {
     if strict {
-        return strict_warnings(alloc, bytes, size);
+        return strict_warnings(alloc, bytes);
     }
-    FontMetrics::read(alloc, bytes, size)?;
+    FontMetrics::read(alloc, bytes, None)?;
     Ok(Vec::new(alloc))
 }
 

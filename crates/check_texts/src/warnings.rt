@@ -9,23 +9,17 @@ use crate::rules::{code_warning, piece_warning, step_warning};
 use crate::{Warning, endless_pair};
 use std::alloc::{AllocError, Global};
 use tfm_tables::{Font, FontFault};
-use tfm_words::Size;
 
-/// Reads a font at `size`, or at its design size for `None`, and returns its warnings, which don't depend on
-/// the size: in the order of the file those of its codes, instructions and recipes, that of bytes after the last
-/// word, and then that of a pair for which the lig/kern program never ends. The error is that of `Font::read`,
-/// or `OutOfMemory` if an allocation fails after it.
-pub fn strict_warnings(
-    alloc: Global,
-    bytes: &[u8],
-    size: Option<Size>,
-) -> Result<Vec<Warning>, FontFault>
+/// Reads a font, and returns its warnings: in the order of the file those of its codes, instructions and recipes,
+/// that of bytes after the last word, and then that of a pair for which the lig/kern program never ends. The error
+/// is that of `Font::read`, or `OutOfMemory` if an allocation fails after it.
+pub fn strict_warnings(alloc: Global, bytes: &[u8]) -> Result<Vec<Warning>, FontFault>
     ensures accepted { IfOk result (λ _. font_fault_of bytes.now ≡ None) }
     ensures warnings { IfOk result (λ found. (pair : Option (Option ℕ × ℕ))
         × (found.items ≡ warnings_of bytes.now ++ endless_warnings pair)) }
     ensures fault { IfErr result (IsRefusalOf bytes.now) }
 {
-    let font = Font::read(alloc, bytes, size)?;
+    let font = Font::read(alloc, bytes, None)?;
     match warnings_in(alloc, bytes, &font) {
         Ok(found) => Ok(found),
         Err(_) => Err(FontFault::OutOfMemory),

@@ -203,11 +203,10 @@ module _ (rows : List Row) where
       × IsPairsLayout asked.layout
       × IsVerbose asked.verbose
 
-  -- the size of the fonts of `check`, the format, and whether `--strict`, `--quiet`, `--summary` and `--verbose` are given
+  -- the format of `check`, and whether `--strict`, `--quiet`, `--summary` and `--verbose` are given
   abbrev pub IsCheckLayout : CheckLayout → Type 0
   IsCheckLayout layout =
-      IsSize layout.size
-      × (first_of (codes "format") rows ≡ Some (output_format_word layout.format))
+      (first_of (codes "format") rows ≡ Some (output_format_word layout.format))
       × IsFlag (one_of (codes "strict") rows) layout.strict
       × IsFlag (one_of (codes "quiet") rows) layout.quiet
       × IsFlag (one_of (codes "summary") rows) layout.summary
@@ -217,11 +216,16 @@ module _ (rows : List Row) where
   abbrev pub has_no_font : Bool
   has_no_font = is_none (all_of (codes "FONT") rows) && is_none (first_of (codes "files-from") rows)
 
+  -- `--size` has a value that states no size
+  abbrev pub misstates_size : Bool
+  misstates_size = option_map_or (λ text. is_none (size_of text)) (first_of (codes "size") rows) false
+
   -- the fonts of `check`, in order, the file with further names, whether `--null` is given, and the layout; there is
-  -- a font or such a file
+  -- a font or such a file, and `--size` has no value that states no size
   abbrev pub IsChecking : Checking → Type 0
   IsChecking asked =
-      (has_no_font ≡ false)
+      (misstates_size ≡ false)
+      × (has_no_font ≡ false)
       × (unwrap_or (all_of (codes "FONT") rows) [] ≡ texts asked.fonts.items)
       × (option_map (λ file. file.now) asked.list ≡ first_of (codes "files-from") rows)
       × IsFlag (one_of (codes "null") rows) asked.null
@@ -257,10 +261,6 @@ module _ (rows : List Row) where
 -- there is a subcommand, which states this request with its values
 abbrev pub IsAskedOf : Option (Text × List Row) → Requested → Type 0
 IsAskedOf subcommand asked = IsSomeAnd subcommand (λ s. Asks s.1 s.0 asked)
-
--- `--size` has a value that states no size
-abbrev pub misstates_size : List Row → Bool
-misstates_size rows = option_map_or (λ text. is_none (size_of text)) (first_of (codes "size") rows) false
 
 -- `--encoding` has a value that states no encoding and names no file
 abbrev pub misstates_encoding : List Row → Bool

@@ -261,14 +261,14 @@ fn asked_pairs_layout(matches: &ArgMatches<'_>) -> Option<PairsLayout>
     })
 }
 
-/// Returns the fonts that `check` reads, and its options.
+/// Returns the fonts that `check` reads, and its options. A size has no effect, but must be one.
 fn asked_fonts<'a>(
     alloc: Global,
     matches: &ArgMatches<'a>,
 ) -> Result<Option<Checking<'a>>, AllocError>
     ensures { IfOk result (Finds (IsChecking (rows_of (found_of matches.now)))) }
 {
-    if has_no_font(matches) {
+    if misstated(matches) || has_no_font(matches) {
         return Ok(None);
     }
     let fonts = asked_words(alloc, matches, "FONT")?;
@@ -290,12 +290,11 @@ fn has_no_font(matches: &ArgMatches<'_>) -> bool
     words(matches, "FONT").is_none() && value_of(matches, "files-from").is_none()
 }
 
-/// Returns the size of the fonts of `check`, and how the findings are printed.
+/// Returns how the findings of `check` are printed.
 fn asked_check_layout(matches: &ArgMatches<'_>) -> Option<CheckLayout>
     ensures { Finds (IsCheckLayout (rows_of (found_of matches.now))) result }
 {
     Some(CheckLayout {
-        size: asked_size(matches)?,
         format: asked_output_format(matches)?,
         strict: flag(matches, "strict"),
         quiet: flag(matches, "quiet"),

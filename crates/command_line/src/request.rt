@@ -111,11 +111,9 @@ pub struct Checking<'a> {
     pub layout: CheckLayout,
 }
 
-/// The options of `check`: how fonts are read, and how the findings are printed.
+/// The options of `check`: how the findings are printed.
 #[derive(Clone, Copy)]
 pub struct CheckLayout {
-    /// The size of all fonts, in sp; `None` means the design size of each font.
-    pub size: Option<Size>,
     /// The format of the output.
     pub format: OutputFormat,
     /// Whether the warnings of accepted fonts are printed.

@@ -154,13 +154,13 @@ where
 fn verdict_of(
     alloc: Global,
     bytes: Result<Vec<u8>, ReadFault>,
-    layout: CheckLayout,
+    strict: bool,
 ) -> Result<Verdict, AllocError>
     ensures { (known : Option (List ℕ)) → IfOk bytes (λ bytes. IfSome known (λ all. HaveSameFont bytes.items all))
-        → IfOk result (λ verdict. IfSome known (λ all. IsFound layout.strict all verdict)) }
+        → IfOk result (λ verdict. IfSome known (λ all. IsFound strict all verdict)) }
 {
     match bytes {
-        Ok(bytes) => Verdict::check(alloc, bytes.as_slice(), layout.size, layout.strict),
+        Ok(bytes) => Verdict::check(alloc, bytes.as_slice(), strict),
         Err(ReadFault::NotRead) => Ok(Verdict::NotRead),
         Err(ReadFault::OutOfMemory) => Err(AllocError),
     }
@@ -184,7 +184,7 @@ where
     ensures fault { IfErr result (λ fault. (fault ≡ ToolFault.OutOfMemory) ⊎ (fault ≡ ToolFault.Write)) }
 {
     let (name, bytes) = font;
-    let verdict = verdict_of(fonts.alloc, bytes, fonts.layout)?;
+    let verdict = verdict_of(fonts.alloc, bytes, fonts.layout.strict)?;
     if matches!(verdict, Verdict::Refused(_)) {
         fonts.files.note_refused();
     }

@@ -7,7 +7,6 @@ use std::process::Abort;
 use test_support::fonts::files::NO_CHARACTERS;
 use tfm_tables::FontFault;
 use tfm_words::Count::Nh;
-use tfm_words::Size;
 use tfm_words::Table::{
     CharInfo, Depth, Exten, Header, Height, Italic, Kern, LigKern, Param, Width,
 };
@@ -29,7 +28,7 @@ fn is_for(verdict: &Verdict, fault: Option<FontFault>) -> bool {
     }
 }
 
-/// The font in these bytes has this error, or none, at each size, and this line under this name.
+/// The font in these bytes has this error, or none, and this line under this name.
 fn checks<R: Abort + AllocGlobal>(
     rt: &R,
     name: &str,
@@ -37,11 +36,9 @@ fn checks<R: Abort + AllocGlobal>(
     fault: Option<FontFault>,
     line: &str,
 ) {
-    for size in &[None, Size::new(1), Size::new(134_217_727)] {
-        let verdict = Verdict::check(rt.alloc(), bytes, *size, false).expect(rt, "memory");
-        same(rt, &is_for(&verdict, fault), &true, &line);
-        has_line(rt, name, &verdict, line);
-    }
+    let verdict = Verdict::check(rt.alloc(), bytes, false).expect(rt, "memory");
+    same(rt, &is_for(&verdict, fault), &true, &line);
+    has_line(rt, name, &verdict, line);
 }
 
 /// The verdict has this line under this name.

@@ -94,7 +94,7 @@ fn lines_of(lengths: &Lengths, words: u16) -> usize {
 
 /// The font is accepted by `Verdict::check`, and its full listing has these lines.
 fn is_listed<R: Abort + AllocGlobal>(rt: &R, case: &str, file: &[u8], lines: usize) {
-    let verdict = Verdict::check(rt.alloc(), file, None, false).expect(rt, "memory");
+    let verdict = Verdict::check(rt.alloc(), file, false).expect(rt, "memory");
     same(rt, &verdict.is_plain(), &true, &case);
     let layout = ListLayout {
         format: OutputFormat::Text,

@@ -58,7 +58,7 @@ static REFUSED: [Refused; 5] = [
 
 /// The file has warnings with these texts, which are all reasons for TeX to refuse it, or none is.
 fn warns<R: Abort + AllocGlobal>(rt: &R, file: &[u8], texts: &[&str], is_refused: bool) {
-    let found = strict_warnings(rt.alloc(), file, None).expect(rt, "warnings");
+    let found = strict_warnings(rt.alloc(), file).expect(rt, "warnings");
     same(rt, &found.len(), &texts.len(), &texts);
     for (warning, text) in found.iter().zip(texts) {
         is_warning(rt, warning, text, is_refused);

@@ -7,4 +7,4 @@ use Rattle.command_line.proofs.reading.asked_fonts.Goals as goal
 pub returns-in_default : goal.returns-in_default
 returns-in_default c =
     no_part _ (IsChecking (rows_of (found_of c.args.matches.now))) (λ any. any.layout) c.asked_check_layout.result None
-    c.asked_check_layout.ensures (search rules) refl (λ any asked. asked.4)
+    c.asked_check_layout.ensures (search rules) refl (λ any asked. asked.5)
