@@ -1,6 +1,6 @@
 -- The command line as tables: the subcommands, and the arguments of each, with ranges, choices and defaults.
 -- This project's own. The crate `clap` defines the result of a parse and the order of its errors.
-use Rattle.std.specs.Prelude.{◌≡◌, ℕ, List, [], ◌∷◌, ◌++◌, Some, true, false, codes, map, pos}
+use Rattle.std.specs.Prelude.{◌≡◌, ℕ, List, [], ◌∷◌, ◌++◌, Option, Some, None, true, false, codes, map, pos}
 use Rattle.std.specs.Borrow.{Bor}
 use Rattle.clap.specs.Lexer.{usize_max}
 use Rattle.clap.specs.Words.{App, Rule, Shape, Text, app_of, new_app, new_rule, rule_of, shape_of, with_rule}
@@ -10,6 +10,8 @@ use Rattle.clap.specs.declared.builder.command.Command.TheViews.{out-Command as 
 use Rattle.clap.specs.declared.builder.action.ArgAction.TheVariants.{SetTrue}
 use Rattle.clap.specs.declared.builder.value_parser.ValueParser.{ValueParser}
 use Rattle.clap.specs.declared.builder.value_parser.ValueParser.TheVariants as parser
+use Rattle.command_line.specs.declared.argument_tables.Form.{Form}
+use Rattle.command_line.specs.declared.argument_tables.Form.TheVariants as form
 use Rattle.command_line.specs.declared.commands.Subcommand.{Subcommand}
 use Rattle.command_line.specs.declared.commands.Subcommand.TheVariants as kind
 use Rattle.tex_sizes.specs.Lengths.{unit_name, units as length_units}
@@ -36,6 +38,10 @@ number_rule name most = record (new_rule name) { long = Some name; value_names =
 abbrev pub choice_rule : Text → ValueParser → Rule
 choice_rule name choices = record (new_rule name) { long = Some name; value_names = 1; parser = Some choices }
 
+-- the option of this name whose value is any text for a parse
+abbrev pub text_rule : Text → Rule
+text_rule name = record (new_rule name) { long = Some name; value_names = 1 }
+
 -- the option of this name without a value
 abbrev pub flag_rule : Text → Rule
 flag_rule name = record (new_rule name) { long = Some name; action = Some SetTrue }
@@ -48,6 +54,21 @@ verbose_rule = record (flag_rule (codes "verbose")) { short = Some 118 }
 abbrev pub TakesWords : List Text → ValueParser → Type 0
 TakesWords words (parser.Names names) = map (λ (word : Bor Text). word.now) names.now ≡ words
 TakesWords words _ = ⊥
+
+-- the argument of this name that takes what the form states, without a default value
+abbrev pub rule_of_form : Text → Form → Rule
+rule_of_form name form.One = needed (new_rule name)
+rule_of_form name (form.Many required) = record (words_rule name) { required = required }
+rule_of_form name form.Flag = flag_rule name
+rule_of_form name form.Verbose = record (flag_rule name) { short = Some 118 }
+rule_of_form name (form.Text _ _) = text_rule name
+rule_of_form name (form.Number most) = number_rule name most
+rule_of_form name (form.Word _ words) = choice_rule name (parser.Names words)
+
+-- the argument of a row: its name, its help, its form, and its default value, if it has one
+abbrev pub rule_in : Bor Text × Bor Text × Form × Option (Bor Text) → Rule
+rule_in (name, help, form, None) = rule_of_form name.now form
+rule_in (name, help, form, Some value) = with_default value.now (rule_of_form name.now form)
 
 -- ---- options
 
@@ -98,10 +119,6 @@ pub record PairsChoices : Type 0 where
 pub record CheckChoices : Type 0 where
   pub formats : ValueParser
   pub formats_taken : TakesWords json_format_words formats
-
--- the option of this name whose value is any text for a parse
-abbrev pub text_rule : Text → Rule
-text_rule name = record (new_rule name) { long = Some name; value_names = 1 }
 
 -- the option `--size`
 abbrev pub size_rule : Rule

@@ -1,18 +1,13 @@
 //! Builds the `clap` command: its subcommands and their arguments, with ranges and defaults.
-ghost use Rattle.std.specs.Prelude.{◌≡◌, codes, IfOk, IsOkAnd};
-ghost use Rattle.clap.specs.declared.builder.value_parser.ValueParser.{ValueParser};
-ghost use Rattle.clap.specs.declared.builder.value_parser.ValueParser.TheVariants.{Names};
-ghost use Rattle.clap.specs.Words.{App, Rule, Shape, new_app, new_rule, with_rule, with_subcommand};
-ghost use Rattle.command_line.specs.Commands.{AllChoices, Choices, IsArgument, IsCommandOf, IsSubcommand, ListChoices, PairsChoices, TakesWords, bare_app, block_rule, check_shape, choice_rule, counts_shape, each_shape, encoding_rule, flag_rule, format_words, list_shape, missing_words, needed, number_rule, pairs_shape, record_words, run_rules, rules_after, rules_before, set_shape, setting_rules, size_rule, stream_shape, text_rule, tfmset_app, unit_rule, unit_words, verbose_rule, with_default, with_rules, words_rule, CheckChoices, json_format_words, IsBuilt, subcommand_name};
+ghost use Rattle.std.specs.Prelude.{◌≡◌, map, IfOk};
+ghost use Rattle.clap.specs.Words.{App, Rule, Shape, new_app, with_rule, with_subcommand};
+ghost use Rattle.command_line.specs.Commands.{AllChoices, IsArgument, IsBuilt, IsCommandOf, IsSubcommand, bare_app, rule_in, rule_of_form, subcommand_name, tfmset_app, with_rules};
 
+use crate::argument_tables::{CHECK, COUNTS, EACH, Form, LIST, PAIRS, Row, SET, STREAM};
 use crate::help::{
-    ABOUT, AFTER_HELP, ALL_HELP, BLOCK_HELP, BOX_UNIT_HELP, CAPACITY_HELP, CAUSES_HELP,
-    CHECK_ABOUT, CHECK_AFTER_HELP, COUNTS_ABOUT, COUNTS_AFTER_HELP, CRLF_HELP, EACH_ABOUT,
-    EACH_AFTER_HELP, ENCODING_HELP, FILE_HELP, FILES_FROM_HELP, FONT_HELP, FONTS_HELP, FORMAT_HELP,
-    JSON_FORMAT_HELP, LIMIT_HELP, LIST_ABOUT, LIST_AFTER_HELP, MISSING_HELP, NULL_HELP,
-    PAIRS_ABOUT, PAIRS_AFTER_HELP, QUIET_HELP, RECORD_HELP, SET_ABOUT, SET_AFTER_HELP, SIZE_HELP,
-    STREAM_ABOUT, STREAM_AFTER_HELP, STREAM_BLOCK_HELP, STREAM_FILE_HELP, STRICT_HELP,
-    SUMMARY_HELP, UNIT_HELP, VERBOSE_HELP, WORDS_HELP, WORKERS_HELP,
+    ABOUT, AFTER_HELP, CHECK_ABOUT, CHECK_AFTER_HELP, COUNTS_ABOUT, COUNTS_AFTER_HELP, EACH_ABOUT,
+    EACH_AFTER_HELP, LIST_ABOUT, LIST_AFTER_HELP, PAIRS_ABOUT, PAIRS_AFTER_HELP, SET_ABOUT,
+    SET_AFTER_HELP, STREAM_ABOUT, STREAM_AFTER_HELP,
 };
 use clap::builder::ValueParser;
 use clap::{Arg, ArgAction, Command};
@@ -167,176 +162,32 @@ fn add_arguments(
     ensures { IfOk result (λ _. IsCommandOf (new_app (subcommand_name subcommand)) command.old → IsBuilt subcommand command.new) }
 {
     match subcommand {
-        Subcommand::Counts => add_counts(alloc, command),
-        Subcommand::List => add_list(alloc, command),
-        Subcommand::Pairs => add_pairs(alloc, command),
-        Subcommand::Check => add_check(alloc, command),
-        Subcommand::Set => add_set(alloc, command),
-        Subcommand::Stream => add_stream(alloc, command),
-        Subcommand::Each => add_each(alloc, command),
+        Subcommand::Counts => add_rows(alloc, command, &COUNTS),
+        Subcommand::List => add_rows(alloc, command, &LIST),
+        Subcommand::Pairs => add_rows(alloc, command, &PAIRS),
+        Subcommand::Check => add_rows(alloc, command, &CHECK),
+        Subcommand::Set => add_rows(alloc, command, &SET),
+        Subcommand::Stream => add_rows(alloc, command, &STREAM),
+        Subcommand::Each => add_rows(alloc, command, &EACH),
     }
 }
 
-/// Adds the arguments of `counts`.
-fn add_counts<'a>(alloc: Global, command: &mut Command<'a>) -> Result<(), AllocError>
-    ensures { IfOk result (λ _. IsCommandOf (new_app (codes "counts")) command.old → IsSubcommand counts_shape command.new) }
-{
-    add(alloc, command, verbose_option(alloc, CAUSES_HELP))?;
-    add(alloc, command, font_argument(alloc))
-}
-
-/// Adds the arguments of `list`.
-fn add_list<'a>(alloc: Global, command: &mut Command<'a>) -> Result<(), AllocError>
-    ensures { IfOk result (λ _. IsCommandOf (new_app (codes "list")) command.old
-        → (choices : ListChoices) × IsSubcommand (list_shape choices) command.new) }
-{
-    add(alloc, command, size_option(alloc))?;
-    add(alloc, command, unit_option(alloc))?;
-    add(alloc, command, json_format_option(alloc))?;
-    add(alloc, command, flag_option(alloc, "all", ALL_HELP))?;
-    add(alloc, command, verbose_option(alloc, CAUSES_HELP))?;
-    add(alloc, command, font_argument(alloc))
-}
-
-/// Adds the arguments of `pairs`.
-fn add_pairs<'a>(alloc: Global, command: &mut Command<'a>) -> Result<(), AllocError>
-    ensures { IfOk result (λ _. IsCommandOf (new_app (codes "pairs")) command.old
-        → (choices : PairsChoices) × IsSubcommand (pairs_shape choices) command.new) }
-{
-    add(alloc, command, size_option(alloc))?;
-    add(alloc, command, unit_option(alloc))?;
-    add(alloc, command, format_option(alloc))?;
-    add(alloc, command, encoding_option(alloc))?;
-    add(alloc, command, verbose_option(alloc, CAUSES_HELP))?;
-    add(alloc, command, font_argument(alloc))
-}
-
-/// Adds the arguments of `check`.
-fn add_check<'a>(alloc: Global, command: &mut Command<'a>) -> Result<(), AllocError>
-    ensures { IfOk result (λ _. IsCommandOf (new_app (codes "check")) command.old
-        → (choices : CheckChoices) × IsSubcommand (check_shape choices) command.new) }
-{
-    add(alloc, command, hidden_size_option(alloc))?;
-    add(alloc, command, flag_option(alloc, "strict", STRICT_HELP))?;
-    add(alloc, command, flag_option(alloc, "quiet", QUIET_HELP))?;
-    add(alloc, command, flag_option(alloc, "summary", SUMMARY_HELP))?;
-    add(alloc, command, json_format_option(alloc))?;
-    add(
-        alloc,
-        command,
-        text_option(alloc, "files-from", "FILE", FILES_FROM_HELP),
-    )?;
-    add(alloc, command, flag_option(alloc, "null", NULL_HELP))?;
-    add(alloc, command, verbose_option(alloc, CAUSES_HELP))?;
-    add(alloc, command, many(alloc, "FONT", FONTS_HELP))
-}
-
-/// Adds the arguments of `set`.
-fn add_set<'a>(alloc: Global, command: &mut Command<'a>) -> Result<(), AllocError>
-    ensures { IfOk result (λ _. IsCommandOf (new_app (codes "set")) command.old
-        → (choices : Choices) × IsSubcommand (set_shape choices) command.new) }
-{
-    let block = block_option(alloc, BLOCK_HELP).default_value("1");
-    setting_options(alloc, command, block)?;
-    add(
-        alloc,
-        command,
-        many(alloc, "FILE", FILE_HELP).required(true),
-    )
-}
-
-/// Adds the arguments of `stream`.
-fn add_stream<'a>(alloc: Global, command: &mut Command<'a>) -> Result<(), AllocError>
-    ensures { IfOk result (λ _. IsCommandOf (new_app (codes "stream")) command.old
-        → (choices : Choices) × IsSubcommand (stream_shape choices) command.new) }
-{
-    setting_options(alloc, command, block_option(alloc, STREAM_BLOCK_HELP))?;
-    add(alloc, command, many(alloc, "FILE", STREAM_FILE_HELP))
-}
-
-/// Adds the arguments of `each`.
-fn add_each<'a>(alloc: Global, command: &mut Command<'a>) -> Result<(), AllocError>
-    ensures { IfOk result (λ _. IsCommandOf (new_app (codes "each")) command.old
-        → (choices : Choices) × IsSubcommand (each_shape choices) command.new) }
-{
-    add(alloc, command, size_option(alloc))?;
-    let block = block_option(alloc, BLOCK_HELP).default_value("1");
-    run_options(alloc, command, block)?;
-    add(
-        alloc,
-        command,
-        many(alloc, "WORD", WORDS_HELP).required(true),
-    )
-}
-
-/// Adds the options of `set` and `stream`, with this one for `--block`, and the argument FONT.
-fn setting_options<'a>(
+/// Adds these arguments in order.
+fn add_rows<'a>(
     alloc: Global,
     command: &mut Command<'a>,
-    block: Arg<'a>,
+    rows: &[Row<'a>],
 ) -> Result<(), AllocError>
-    ensures { IfOk result (λ _. (app : App) (rule : Rule) → IsCommandOf app command.old
-        → IsArgument rule block.entry
-        → (choices : Choices) × IsCommandOf (with_rules app (setting_rules rule choices)) command.new) }
-{
-    add_size_and_limit(alloc, command)?;
-    run_options(alloc, command, block)?;
-    add(alloc, command, font_argument(alloc))
-}
-
-/// Adds the options `--size` and `--limit`.
-fn add_size_and_limit<'a>(alloc: Global, command: &mut Command<'a>) -> Result<(), AllocError>
     ensures { IfOk result (λ _. (app : App) → IsCommandOf app command.old
-        → IsCommandOf (with_rule (with_rule app size_rule) (with_default (codes "1048576") (number_rule (codes "limit") 16777216))) command.new) }
+        → IsCommandOf (with_rules app (map rule_in rows.now)) command.new) }
 {
-    add(alloc, command, size_option(alloc))?;
-    let limit = number_option(alloc, "limit", LIMIT_HELP, 16_777_216).default_value("1048576");
-    add(alloc, command, limit)
+    for row in rows {
+        add(alloc, command, argument(alloc, row))?;
+    }
+    Ok(())
 }
 
-/// Adds the options that `set`, `stream` and `each` have in common, except `--size`, with this one for
-/// `--block`.
-fn run_options<'a>(
-    alloc: Global,
-    command: &mut Command<'a>,
-    block: Arg<'a>,
-) -> Result<(), AllocError>
-    ensures { IfOk result (λ _. (app : App) (rule : Rule) → IsCommandOf app command.old
-        → IsArgument rule block.entry
-        → (choices : Choices) × IsCommandOf (with_rules app (run_rules rule choices)) command.new) }
-{
-    before_block(alloc, command)?;
-    add(alloc, command, block)?;
-    after_block(alloc, command)
-}
-
-/// Adds the options before `--block`.
-fn before_block<'a>(alloc: Global, command: &mut Command<'a>) -> Result<(), AllocError>
-    ensures { IfOk result (λ _. (app : App) → IsCommandOf app command.old
-        → (missing : ValueParser) × TakesWords missing_words missing × IsCommandOf (with_rules app (rules_before missing)) command.new) }
-{
-    add(alloc, command, missing_option(alloc))?;
-    add(alloc, command, flag_option(alloc, "crlf", CRLF_HELP))?;
-    add(alloc, command, encoding_option(alloc))?;
-    let workers = number_option(alloc, "workers", WORKERS_HELP, 16).default_value("2");
-    add(alloc, command, workers)?;
-    let capacity = number_option(alloc, "capacity", CAPACITY_HELP, 65_536).default_value("16");
-    add(alloc, command, capacity)
-}
-
-/// Adds the options after `--block`.
-fn after_block<'a>(alloc: Global, command: &mut Command<'a>) -> Result<(), AllocError>
-    ensures { IfOk result (λ _. (app : App) → IsCommandOf app command.old
-        → (records : ValueParser) × (units : ValueParser) × TakesWords record_words records × TakesWords unit_words units
-        × IsCommandOf (with_rules app (rules_after records units)) command.new) }
-{
-    add(alloc, command, record_option(alloc))?;
-    add(alloc, command, box_unit_option(alloc))?;
-    add(alloc, command, verbose_option(alloc, VERBOSE_HELP))
-}
-
-/// Adds an argument. For the proof: every argument is added by this function, since adding one is slow to
-/// prove, and through a reference, since each move of a command is.
+/// Adds an argument. For the proof: a command is passed by reference, since each move of one is slow to prove.
 fn add<'a>(alloc: Global, command: &mut Command<'a>, argument: Arg<'a>) -> Result<(), AllocError>
     ensures { IfOk result (λ _. (app : App) (rule : Rule)
         → IsCommandOf app command.old → IsArgument rule argument.entry
@@ -346,144 +197,37 @@ fn add<'a>(alloc: Global, command: &mut Command<'a>, argument: Arg<'a>) -> Resul
     Ok(())
 }
 
-fn font_argument<'a>(alloc: Global) -> Arg<'a>
-    ensures { IsArgument (needed (new_rule (codes "FONT"))) result }
+/// Builds an argument.
+fn argument<'a>(alloc: Global, row: &Row<'a>) -> Arg<'a>
+    ensures { IsArgument (rule_in row.now) result }
 {
-    Arg::new(alloc, "FONT").required(true).help(FONT_HELP)
+    let argument = without_default(alloc, row);
+    match row.3 {
+        Some(value) => argument.default_value(value),
+        None => argument,
+    }
 }
 
-fn size_option<'a>(alloc: Global) -> Arg<'a>
-    ensures { IsArgument size_rule result }
+/// Builds an argument without its default value.
+fn without_default<'a>(alloc: Global, row: &Row<'a>) -> Arg<'a>
+    ensures { IsArgument (rule_of_form row.now.0.now row.now.2) result }
 {
-    text_option(alloc, "size", "N", SIZE_HELP)
-}
-
-/// Builds the option `--size` without a line in the help.
-fn hidden_size_option<'a>(alloc: Global) -> Arg<'a>
-    ensures { IsArgument size_rule result }
-{
-    size_option(alloc).hide(true)
-}
-
-fn missing_option<'a>(alloc: Global) -> Arg<'a>
-    ensures { (parser : ValueParser) × TakesWords missing_words parser
-        × IsArgument (with_default (codes "refuse") (choice_rule (codes "missing") parser)) result }
-{
-    let words = &["refuse", "skip"];
-    choice_option(alloc, "missing", "P", MISSING_HELP, words).default_value("refuse")
-}
-
-fn encoding_option<'a>(alloc: Global) -> Arg<'a>
-    ensures { IsArgument encoding_rule result }
-{
-    text_option(alloc, "encoding", "E", ENCODING_HELP).default_value("bytes")
-}
-
-fn record_option<'a>(alloc: Global) -> Arg<'a>
-    ensures { (parser : ValueParser) × TakesWords record_words parser
-        × IsArgument (with_default (codes "1") (choice_rule (codes "record") parser)) result }
-{
-    let words = &["1", "2", "json", "box"];
-    choice_option(alloc, "record", "V", RECORD_HELP, words).default_value("1")
-}
-
-fn box_unit_option<'a>(alloc: Global) -> Arg<'a>
-    ensures { (parser : ValueParser) × TakesWords unit_words parser
-        × IsArgument (choice_rule (codes "unit") parser) result }
-{
-    let words = &["sp", "pt", "bp", "mm", "cm", "in", "pc"];
-    choice_option(alloc, "unit", "U", BOX_UNIT_HELP, words)
-}
-
-fn format_option<'a>(alloc: Global) -> Arg<'a>
-    ensures { (parser : ValueParser) × TakesWords format_words parser
-        × IsArgument (with_default (codes "text") (choice_rule (codes "format") parser)) result }
-{
-    let words = &["text", "csv", "json"];
-    choice_option(alloc, "format", "F", FORMAT_HELP, words).default_value("text")
-}
-
-fn unit_option<'a>(alloc: Global) -> Arg<'a>
-    ensures { (parser : ValueParser) × TakesWords unit_words parser
-        × IsArgument (unit_rule parser) result }
-{
-    let words = &["sp", "pt", "bp", "mm", "cm", "in", "pc"];
-    choice_option(alloc, "unit", "U", UNIT_HELP, words).default_value("sp")
-}
-
-/// Builds the option `--format` of `list` and `check`.
-fn json_format_option<'a>(alloc: Global) -> Arg<'a>
-    ensures { (parser : ValueParser) × TakesWords json_format_words parser
-        × IsArgument (with_default (codes "text") (choice_rule (codes "format") parser)) result }
-{
-    let words = &["text", "json"];
-    choice_option(alloc, "format", "F", JSON_FORMAT_HELP, words).default_value("text")
-}
-
-/// Builds an argument that takes one or more values.
-fn many<'a>(alloc: Global, name: &'a str, help: &'a str) -> Arg<'a>
-    ensures { IsArgument (words_rule name.now) result }
-{
-    Arg::new(alloc, name).num_args(1..).help(help)
-}
-
-/// Builds an option without a value.
-fn flag_option<'a>(alloc: Global, name: &'a str, help: &'a str) -> Arg<'a>
-    ensures { IsArgument (flag_rule name.now) result }
-{
-    Arg::new(alloc, name)
-        .long(name)
-        .help(help)
-        .action(ArgAction::SetTrue)
-}
-
-fn verbose_option<'a>(alloc: Global, help: &'a str) -> Arg<'a>
-    ensures { IsArgument verbose_rule result }
-{
-    flag_option(alloc, "verbose", help).short('v')
-}
-
-/// Builds an option whose value is any text for a parse.
-fn text_option<'a>(alloc: Global, name: &'a str, value: &'a str, help: &'a str) -> Arg<'a>
-    ensures { IsArgument (text_rule name.now) result }
-{
-    Arg::new(alloc, name)
-        .long(name)
-        .value_name(value)
-        .help(help)
-}
-
-/// Builds an option whose value is a number, 1 to `most`.
-fn number_option<'a>(alloc: Global, name: &'a str, help: &'a str, most: u32) -> Arg<'a>
-    ensures { IsArgument (number_rule name.now most) result }
-{
-    Arg::new(alloc, name)
-        .long(name)
-        .value_name("N")
-        .help(help)
-        .value_parser(ValueParser::signed(1, i64::from(most)))
-}
-
-fn block_option<'a>(alloc: Global, help: &'a str) -> Arg<'a>
-    ensures { IsArgument block_rule result }
-{
-    number_option(alloc, "block", help, 8)
-}
-
-/// Builds an option whose value is one of `words`.
-fn choice_option<'a>(
-    alloc: Global,
-    name: &'a str,
-    value: &'a str,
-    help: &'a str,
-    words: &'a [&'a str],
-) -> Arg<'a>
-    ensures { IsArgument (choice_rule name.now (Names words.entry)) result }
-{
-    Arg::new(alloc, name)
-        .long(name)
-        .value_name(value)
-        .help(help)
-        .value_parser(words)
-        .hide_possible_values(true)
+    let (name, help, form, _) = *row;
+    let argument = Arg::new(alloc, name).help(help);
+    match form {
+        Form::One => argument.required(true),
+        Form::Many(required) => argument.num_args(1..).required(required),
+        Form::Flag => argument.long(name).action(ArgAction::SetTrue),
+        Form::Verbose => argument.long(name).action(ArgAction::SetTrue).short('v'),
+        Form::Text(value, hidden) => argument.long(name).value_name(value).hide(hidden),
+        Form::Number(most) => argument
+            .long(name)
+            .value_name("N")
+            .value_parser(ValueParser::signed(1, i64::from(most))),
+        Form::Word(value, words) => argument
+            .long(name)
+            .value_name(value)
+            .value_parser(words)
+            .hide_possible_values(true),
+    }
 }

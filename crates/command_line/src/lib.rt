@@ -6,6 +6,7 @@ pub use request::{
     CheckLayout, Checking, Jobs, Layout, Listing, Pairing, Request, Requested, Setting,
 };
 
+mod argument_tables;
 mod commands;
 mod help;
 mod reading;

@@ -1,7 +1,0 @@
-use Rattle.std.proofs.Common.{rules, codes}
-use Rattle.command_line.specs.Commands.{missing_words}
-use Rattle.command_line.proofs.CommandLemmas.{with_words}
-use Rattle.command_line.proofs.commands.missing_option.Goals as goal
-
-pub returns : goal.returns
-returns c = with_words (codes "missing") (codes "refuse") missing_words _ c.choice_option.result c.default_value.result _ c.choice_option.ensures c.default_value.ensures (search rules) (search rules)
