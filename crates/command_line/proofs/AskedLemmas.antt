@@ -8,7 +8,7 @@ use Rattle.clap.specs.declared.error.kind.ErrorKind.{ErrorKind}
 use Rattle.clap.specs.declared.parser.matches.ArgMatches.{ArgMatches}
 use Rattle.command_line.specs.Asked.{Finds, IsAskedOf, IsAskedWith, kind_without_request}
 use Rattle.command_line.specs.Commands.{AllChoices, tfmset_app}
-use Rattle.command_line.specs.declared.request.Requested.{Requested}
+use Rattle.command_line.specs.declared.request.Arguments.{Arguments}
 
 module _ (choices : AllChoices) where
   -- the clauses about a parse hold for this command
@@ -28,14 +28,14 @@ module _ (choices : AllChoices) where
     kind_in_words m kind has is = is ∙ ap kind_without_request (rows_of_words m has)
 
     -- the request found in the matches is the one that the arguments state
-    pub asked_in_words : (m : ArgMatches) (found : Option Requested) (asked : Requested) → HasMatchesOf app words m → Finds (IsAskedOf (subcommand_rows_of m)) found
+    pub asked_in_words : (m : ArgMatches) (found : Option Arguments) (asked : Arguments) → HasMatchesOf app words m → Finds (IsAskedOf (subcommand_rows_of m)) found
         → found ≡ Some asked → IsAskedOf (subcommand_of (tfmset_app choices) words) asked
     asked_in_words m (Some other) asked has finds one =
         subst (IsAskedOf (subcommand_of (tfmset_app choices) words)) (same_Some other asked one) (subst (λ s. IsAskedOf s other) (rows_of_words m has) finds)
     asked_in_words m None asked has finds one = absurd (none-some asked one)
 
-    pub nothing_in_words : (m : ArgMatches) (found : Option Requested) → HasMatchesOf app words m → Finds (IsAskedOf (subcommand_rows_of m)) found
-        → found ≡ None → (asked : Requested) → ¬ IsAskedWith choices words asked
+    pub nothing_in_words : (m : ArgMatches) (found : Option Arguments) → HasMatchesOf app words m → Finds (IsAskedOf (subcommand_rows_of m)) found
+        → found ≡ None → (asked : Arguments) → ¬ IsAskedWith choices words asked
     nothing_in_words m (Some other) has finds none asked asks = none-some other (sym none)
     nothing_in_words m None has finds none asked asks = finds asked (subst (λ s. IsAskedOf s asked) (sym (rows_of_words m has)) asks.1)
 

@@ -37,7 +37,7 @@ use Rattle.command_line.specs.declared.request.Listing.{Listing}
 use Rattle.command_line.specs.declared.request.Pairing.{Pairing}
 use Rattle.command_line.specs.declared.request.Request.{Request}
 use Rattle.command_line.specs.declared.request.Request.TheVariants.{Counts, List as ListFont, Pairs, Check, Set, Stream, Each}
-use Rattle.command_line.specs.declared.request.Requested.{Requested}
+use Rattle.command_line.specs.declared.request.Arguments.{Arguments}
 use Rattle.command_line.specs.declared.request.Setting.{Setting}
 
 -- a value that satisfies Fits, or None if no value does
@@ -255,11 +255,11 @@ module _ (rows : List Row) where
   AsksFor name (Each asked) = (name ≡ codes "each") × AreJobs asked
 
   -- they state this request, and name this file with an encoding vector
-  abbrev pub Asks : Text → Requested → Type 0
+  abbrev pub Asks : Text → Arguments → Type 0
   Asks name asked = AsksFor name asked.request × (option_map (λ file. file.now) asked.vector ≡ vector_in)
 
 -- there is a subcommand, which states this request with its values
-abbrev pub IsAskedOf : Option (Text × List Row) → Requested → Type 0
+abbrev pub IsAskedOf : Option (Text × List Row) → Arguments → Type 0
 IsAskedOf subcommand asked = IsSomeAnd subcommand (λ s. Asks s.1 s.0 asked)
 
 -- `--encoding` has a value that states no encoding and names no file
@@ -286,7 +286,7 @@ kind_without_request subcommand = option_map_or (λ s. kind_of_values s.1) subco
 
 module _ (choices : AllChoices) (words : List Text) where
   -- a parse of the arguments has no error, and they state this request
-  abbrev pub IsAskedWith : Requested → Type 0
+  abbrev pub IsAskedWith : Arguments → Type 0
   IsAskedWith asked = (fault_of (tfmset_app choices) words ≡ []) × IsAskedOf (subcommand_of (tfmset_app choices) words) asked
 
   -- the error of the arguments: out of memory, or the first error of a parse; or, if a parse has none, that
@@ -297,10 +297,10 @@ module _ (choices : AllChoices) (words : List Text) where
       HasKind (fault_of (tfmset_app choices) words) error
       ⊎ ((fault_of (tfmset_app choices) words ≡ [])
       × (kind_of error ≡ kind_without_request (subcommand_of (tfmset_app choices) words))
-      × ((asked : Requested) → ¬ IsAskedWith asked))
+      × ((asked : Arguments) → ¬ IsAskedWith asked))
 
 -- the arguments state this request for the command with some parsers
-abbrev pub IsAskedBy : List Text → Requested → Type 0
+abbrev pub IsAskedBy : List Text → Arguments → Type 0
 IsAskedBy words asked = (choices : AllChoices) × IsAskedWith choices words asked
 
 -- the error of the arguments for the command with some parsers, or out of memory, which can also occur

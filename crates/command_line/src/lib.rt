@@ -3,7 +3,7 @@
 
 pub use reading::requested;
 pub use request::{
-    CheckLayout, Checking, Jobs, Layout, Listing, Pairing, Request, Requested, Setting,
+    Arguments, CheckLayout, Checking, Jobs, Layout, Listing, Pairing, Request, Setting,
 };
 
 mod argument_tables;

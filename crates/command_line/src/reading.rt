@@ -8,7 +8,7 @@ ghost use Rattle.command_line.specs.Asked.{AreJobs, Asks, AsksFor, Finds, encodi
 use crate::commands::{alone, tfmset_command};
 use crate::help::{ENCODING_ERROR, FONT_ERROR, SIZE_ERROR, UNIT_ERROR};
 use crate::request::{
-    CheckLayout, Checking, Jobs, Layout, Listing, Pairing, Request, Requested, Setting,
+    Arguments, CheckLayout, Checking, Jobs, Layout, Listing, Pairing, Request, Setting,
 };
 use clap::error::ErrorKind;
 use clap::{ArgMatches, Command, Error};
@@ -23,7 +23,7 @@ use tfm_words::Size;
 /// Parses the arguments that follow the program's name, and returns the request that they state, with the
 /// name of the file with its encoding vector if `--encoding` names one. The error is the first usage error,
 /// or the help or version text if the arguments request it, or a failed allocation.
-pub fn requested<'a, S: AsStr>(alloc: Global, words: &'a [S]) -> Result<Requested<'a>, Error>
+pub fn requested<'a, S: AsStr>(alloc: Global, words: &'a [S]) -> Result<Arguments<'a>, Error>
     ensures asked { IfOk result (IsAskedBy (map S.text words.entry.now)) }
     ensures refused { IfErr result (IsRefusedBy (map S.text words.entry.now)) }
 {
@@ -37,7 +37,7 @@ fn requested_of<'a, S: AsStr>(
     alloc: Global,
     command: &mut Command<'a>,
     words: &'a [S],
-) -> Result<Requested<'a>, Error>
+) -> Result<Arguments<'a>, Error>
     ensures asked { (choices : AllChoices) → IsCommandOf (tfmset_app choices) command.old
         → IfOk result (IsAskedWith choices (map S.text words.entry.now)) }
     ensures refused { (choices : AllChoices) → IsCommandOf (tfmset_app choices) command.old
@@ -156,7 +156,7 @@ fn misplaced(matches: &ArgMatches<'_>) -> bool
 }
 
 /// Returns the request of the subcommand that the parse found, or `None` if it states none.
-fn given<'a>(alloc: Global, matches: &ArgMatches<'a>) -> Result<Option<Requested<'a>>, AllocError>
+fn given<'a>(alloc: Global, matches: &ArgMatches<'a>) -> Result<Option<Arguments<'a>>, AllocError>
     ensures { IfOk result (Finds (IsAskedOf (subcommand_rows_of matches.now))) }
 {
     match matches.subcommand() {
@@ -171,12 +171,12 @@ fn asked_with_vector<'a>(
     alloc: Global,
     name: &str,
     matches: &ArgMatches<'a>,
-) -> Result<Option<Requested<'a>>, AllocError>
+) -> Result<Option<Arguments<'a>>, AllocError>
     ensures { IfOk result (Finds (Asks (rows_of (found_of matches.now)) name.now)) }
 {
     let vector = asked_vector(matches);
     match asked_by(alloc, name, matches)? {
-        Some(request) => Ok(Some(Requested { request, vector })),
+        Some(request) => Ok(Some(Arguments { request, vector })),
         None => Ok(None),
     }
 }

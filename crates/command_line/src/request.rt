@@ -6,7 +6,7 @@ use tfm_words::Size;
 
 /// What the arguments state: a request, and the file with its encoding vector if `--encoding` names one.
 #[derive(Drop)]
-pub struct Requested<'a> {
+pub struct Arguments<'a> {
     /// The request. If `vector` names a file, the request has no encoding, and that of the vector takes its place.
     pub request: Request<'a>,
     /// The name of the file with the encoding vector; `None` if the encoding is one that has a name, or if

@@ -11,7 +11,7 @@ use Rattle.command_line.specs.declared.request.Jobs.{Jobs}
 use Rattle.command_line.specs.declared.request.Layout.{Layout}
 use Rattle.command_line.specs.declared.request.Request.{Request as Asked}
 use Rattle.command_line.specs.declared.request.Request.TheVariants.{Counts, List as ListFont, Pairs, Check, Set, Stream, Each}
-use Rattle.command_line.specs.declared.request.Requested.{Requested}
+use Rattle.command_line.specs.declared.request.Arguments.{Arguments}
 use Rattle.command_line.specs.declared.request.Setting.{Setting}
 use Rattle.tfm_requests.specs.Checking.{dashes_in, is_input}
 use Rattle.tfm_requests.specs.Jobs.{IsErrorOfWords, JobValue, jobs_in}
@@ -114,5 +114,5 @@ module _ (known : List ℕ → Option (List ℕ)) (input : Option (List ℕ)) wh
   IsCauseBy (Each jobs) vector = IsJobsCause known jobs vector
 
   -- the same for what arguments request
-  abbrev pub IsCauseOf : Requested → Failure → Type 0
+  abbrev pub IsCauseOf : Arguments → Failure → Type 0
   IsCauseOf asked = IsCauseBy asked.request asked.vector

@@ -23,7 +23,7 @@ use Rattle.run_texts.specs.ReportText.{run_text, summary_of_run}
 use Rattle.run_texts.specs.Streaming.{IsStreamed}
 use Rattle.command_line.specs.declared.request.Request.{Request}
 use Rattle.command_line.specs.declared.request.Request.TheVariants.{Counts, List as ListFont, Pairs, Check, Set, Stream, Each}
-use Rattle.command_line.specs.declared.request.Requested.{Requested}
+use Rattle.command_line.specs.declared.request.Arguments.{Arguments}
 use Rattle.command_line.specs.declared.request.Jobs.{Jobs}
 use Rattle.command_line.specs.declared.request.Listing.{Listing}
 use Rattle.command_line.specs.declared.request.Setting.{Setting}
@@ -129,5 +129,5 @@ module _ (known : List ℕ → Option (List ℕ)) (input before after : Option (
   IsDoneBy (Each jobs) vector = IsEachSet known before after jobs vector
 
   -- the same for what arguments request
-  abbrev pub IsDone : Requested → ℕ → Type 0
+  abbrev pub IsDone : Arguments → ℕ → Type 0
   IsDone asked = IsDoneBy asked.request asked.vector

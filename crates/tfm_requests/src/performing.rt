@@ -8,6 +8,7 @@ ghost use Rattle.run_texts.specs.declared.fault.ToolFault.TheVariants.{Write as 
 ghost use Rattle.tfm_requests.specs.declared.failures.done.Done.TheVariants.{AllSet};
 ghost use Rattle.tfm_requests.specs.declared.failures.failure.Failure.TheVariants.{Tool};
 
+use crate::any_arguments::AnyArguments;
 use crate::batches::delivery::Delivery;
 use crate::batches::each::set_jobs;
 use crate::batches::setting::{Batch, set_files, stream};
@@ -15,7 +16,6 @@ use crate::checking::check;
 use crate::failures::done::Done;
 use crate::failures::failure::Failure;
 use crate::files::opening::Opens;
-use crate::stated::Stated;
 use crate::texts::{counts_of, listing, pairs};
 use command_line::Request;
 use run_texts::write_text;
@@ -32,7 +32,7 @@ use std::thread::Threads;
 pub fn perform<R, F, I, O, Q>(
     rt: &R,
     files: &F,
-    stated: &Q,
+    arguments: &Q,
     input: &mut I,
     out: &mut O,
 ) -> Result<Done, Failure>
@@ -41,14 +41,14 @@ where
     F: Opens,
     I: Read + Send,
     O: Write,
-    Q: Stated,
+    Q: AnyArguments,
     ensures text { IfOk result (λ done. IsDone (F.known files.now) (I.remaining input.old)
-        (O.contents out.old) (O.contents out.new) (Q.requested stated.now) (done_status done)) }
+        (O.contents out.old) (O.contents out.new) (Q.arguments arguments.now) (done_status done)) }
     ensures untouched { IfErr result (λ failure. is_stop failure ≡ false → out.new ≡ out.old) }
     ensures cause { IfErr result
-        (IsCauseOf (F.known files.now) (I.remaining input.old) (Q.requested stated.now)) }
+        (IsCauseOf (F.known files.now) (I.remaining input.old) (Q.arguments arguments.now)) }
 {
-    let requested = stated.requested();
+    let requested = arguments.arguments();
     let vector = requested.vector;
     match &requested.request {
         Request::Counts { font, .. } => { written(counts_of(rt.alloc(), files, font, input)?, out) }

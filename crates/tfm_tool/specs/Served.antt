@@ -6,7 +6,7 @@ use Rattle.clap.specs.declared.error.Error.{Error}
 use Rattle.clap.specs.declared.error.kind.ErrorKind.{ErrorKind}
 use Rattle.clap.specs.declared.error.kind.ErrorKind.TheVariants.{DisplayHelp, DisplayVersion, OutOfMemory}
 use Rattle.command_line.specs.Asked.{IsAskedBy, IsRefusedBy}
-use Rattle.command_line.specs.declared.request.Requested.{Requested}
+use Rattle.command_line.specs.declared.request.Arguments.{Arguments}
 use Rattle.tfm_requests.specs.Causes.{IsCauseOf}
 use Rattle.tfm_requests.specs.Requests.{IsDone}
 use Rattle.tfm_requests.specs.Status.{status_of}
@@ -35,7 +35,7 @@ is_refusal failure = (status_of failure == 2) || (status_of failure == 3)
 -- the version
 abbrev pub IsServed : List Text → Option (List ℕ) → Option (List ℕ) → Option (List ℕ) → ℕ → Type 0
 IsServed words input before after status =
-    ((asked : Requested) × IsAskedBy words asked × IsDone (λ _. None) input before after asked status)
+    ((asked : Arguments) × IsAskedBy words asked × IsDone (λ _. None) input before after asked status)
     ⊎ ((error : Error) × IsRefusedBy words error × (is_answer (kind_of error) ≡ true) × (status ≡ 0))
 
 -- the arguments are invalid, or this is the reason for the failure of their request, with files whose contents
@@ -43,7 +43,7 @@ IsServed words input before after status =
 abbrev pub IsTurnedDownBy : List Text → Option (List ℕ) → Failure → Type 0
 IsTurnedDownBy words input failure =
     ((error : Error) × IsRefusedBy words error × (is_usage (kind_of error) ≡ true) × (failure ≡ Usage error))
-    ⊎ ((asked : Requested) × IsAskedBy words asked × IsCauseOf (λ _. None) input asked failure)
+    ⊎ ((asked : Arguments) × IsAskedBy words asked × IsCauseOf (λ _. None) input asked failure)
 
 -- the same for the exit status of the failure
 abbrev pub IsTurnedDown : List Text → Option (List ℕ) → ℕ → Type 0

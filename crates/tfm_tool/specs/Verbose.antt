@@ -4,7 +4,7 @@ use Rattle.std.specs.Prelude.{◌≡◌, ◌||◌, List, Bool, true, is_some}
 use Rattle.clap.specs.Words.{Text}
 use Rattle.command_line.specs.Asked.{IsAskedBy}
 use Rattle.command_line.specs.declared.request.Request.{Request}
-use Rattle.command_line.specs.declared.request.Requested.{Requested}
+use Rattle.command_line.specs.declared.request.Arguments.{Arguments}
 use Rattle.command_line.specs.declared.request.Request.TheVariants.{Counts, List as ListFont, Pairs, Check, Set, Stream, Each}
 use Rattle.tfm_tool.specs.Warnings.{small_size}
 
@@ -26,4 +26,4 @@ may_report other = is_noted other
 
 -- the arguments state such a request
 abbrev pub MayReport : List Text → Type 0
-MayReport words = (asked : Requested) × IsAskedBy words asked × (may_report asked.request ≡ true)
+MayReport words = (asked : Arguments) × IsAskedBy words asked × (may_report asked.request ≡ true)

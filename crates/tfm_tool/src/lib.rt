@@ -2,7 +2,7 @@
 //! that write its output.
 #![tactic(auto)]
 
-pub use command_line::{Request, Requested, requested};
+pub use command_line::{Arguments, Request, requested};
 pub use program::{tool, words_refused};
 pub use run_texts::{FontSetting, ReportOptions, Summary, ToolFault, set_each, set_text, status};
 pub use set_line::Version;

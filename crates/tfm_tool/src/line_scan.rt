@@ -7,7 +7,7 @@ const LOOKED_AT: usize = 65_536;
 
 /// What is looked for.
 #[derive(Clone, Copy)]
-pub(crate) struct Wanted {
+pub(crate) struct LineKinds {
     /// A line that is UTF-8 and has a byte above 127.
     pub text: bool,
     /// A line that ends with a carriage return.
@@ -16,7 +16,7 @@ pub(crate) struct Wanted {
 
 /// The line numbers of the first lines that were found.
 #[derive(Clone, Copy)]
-pub(crate) struct Found {
+pub(crate) struct FirstLines {
     pub text: Option<u64>,
     pub returns: Option<u64>,
 }
@@ -128,8 +128,8 @@ impl LineScan {
     }
 
     /// Looks at the next bytes of the file, of which there are none at its end. Returns what is wanted and found.
-    pub fn look(&mut self, bytes: &[u8], wanted: Wanted) -> Found {
-        let mut found = Found {
+    pub fn look(&mut self, bytes: &[u8], wanted: LineKinds) -> FirstLines {
+        let mut found = FirstLines {
             text: None,
             returns: None,
         };
@@ -153,7 +153,7 @@ impl LineScan {
     }
 
     /// Looks at each of these bytes.
-    fn look_closely(&mut self, bytes: &[u8], wanted: Wanted, found: &mut Found) {
+    fn look_closely(&mut self, bytes: &[u8], wanted: LineKinds, found: &mut FirstLines) {
         for byte in bytes {
             if *byte == b'\n' {
                 if wanted.returns && self.line.last == b'\r' {
@@ -167,7 +167,7 @@ impl LineScan {
     }
 
     /// Ends a line.
-    fn end_line(&mut self, wanted: Wanted, found: &mut Found) {
+    fn end_line(&mut self, wanted: LineKinds, found: &mut FirstLines) {
         if wanted.text && self.line.is_wide_text() {
             found.text = found.text.or(Some(self.number));
         }

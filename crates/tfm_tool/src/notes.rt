@@ -2,7 +2,7 @@
 //! and with `--verbose` numbers of lines.
 use crate::coding::{other_than, remedy};
 use crate::font_kind::kind_of;
-use crate::line_scan::{Found, Wanted};
+use crate::line_scan::{FirstLines, LineKinds};
 use encoding_vectors::{read_vector, unknown_names};
 use encodings::Encoding;
 use font_texts::push_escaped_text;
@@ -21,7 +21,7 @@ pub(crate) struct Scope {
     /// Whether the request has `--verbose`.
     pub verbose: bool,
     /// Lines that are looked for at the front of each file, since their numbers are likely wrong.
-    pub wanted: Wanted,
+    pub wanted: LineKinds,
     /// Whether lines that end with a carriage return are counted.
     pub counts_returns: bool,
     /// Whether the numbers of lines that were set and refused are printed.
@@ -83,8 +83,8 @@ impl Notes {
     }
 
     /// Returns what is still looked for at the front of a file, or `None` if nothing is.
-    pub fn wanted(&self) -> Option<Wanted> {
-        let wanted = Wanted {
+    pub fn wanted(&self) -> Option<LineKinds> {
+        let wanted = LineKinds {
             text: self.wants_text.load(Ordering::Relaxed),
             returns: self.wants_returns.load(Ordering::Relaxed),
         };
@@ -210,7 +210,7 @@ impl Notes {
     }
 
     /// Notes the lines that were found in the file of this name, in order: of each kind the first one of the request.
-    pub fn note_lines<R: Wait>(&self, rt: &R, name: &[u8], found: Found) {
+    pub fn note_lines<R: Wait>(&self, rt: &R, name: &[u8], found: FirstLines) {
         if let (Some(returns), Some(text)) = (found.returns, found.text) {
             if returns < text {
                 self.note_line(rt, &self.wants_returns, (name, found.returns, RETURN));

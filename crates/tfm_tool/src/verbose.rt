@@ -5,11 +5,11 @@ ghost use Rattle.tfm_requests.specs.Requests.{IsDone};
 ghost use Rattle.tfm_requests.specs.Status.{done_status, is_stop};
 ghost use Rattle.tfm_tool.specs.Verbose.{is_noted as is_noted_request};
 
-use crate::line_scan::Wanted;
+use crate::line_scan::LineKinds;
 use crate::notes::{Notes, Scope};
 use crate::summary::{say_causes, say_summary};
-use crate::watched::{Called, WatchedFiles, WatchedReader, WatchedWriter, Written};
-use command_line::{Request, Requested};
+use crate::watched::{Sink, WatchedFiles, WatchedReader, WatchedWriter, WriterName};
+use command_line::{Arguments, Request};
 use encodings::Encoding;
 use line_chunks::LineCounts;
 use std::io;
@@ -18,7 +18,7 @@ use std::marker::Brand;
 use std::rt::Files;
 use std::sync::Wait;
 use std::thread::Threads;
-use tfm_requests::{Disk, Done, Failure, FontError, JobError, Purpose, Stated, perform};
+use tfm_requests::{AnyArguments, Disk, Done, Failure, FontError, JobError, Purpose, perform};
 
 /// Returns whether a request has `--verbose`.
 fn is_verbose(request: &Request<'_>) -> bool {
@@ -58,7 +58,7 @@ fn crlf_of(request: &Request<'_>) -> Option<bool> {
 }
 
 /// Returns what is noted of a request. `pairs` notes the causes of errors, which it prints if it fails.
-fn scope_of(requested: &Requested<'_>) -> Scope {
+fn scope_of(requested: &Arguments<'_>) -> Scope {
     let request = &requested.request;
     let (verbose, encoding) = (is_verbose(request), encoding_of(request));
     let streams = matches!(request, Request::Stream(_));
@@ -66,7 +66,7 @@ fn scope_of(requested: &Requested<'_>) -> Scope {
     Scope {
         causes: is_noted(request) || matches!(request, Request::Pairs(_)),
         verbose,
-        wanted: Wanted {
+        wanted: LineKinds {
             text: streams && encoding.is_none() && requested.vector.is_none(),
             returns: streams && keeps_returns,
         },
@@ -97,7 +97,7 @@ fn purpose_of_input(request: &Request<'_>) -> Purpose {
 
 /// A request that was carried out, and what was noted of it.
 #[derive(Drop)]
-struct Outcome {
+struct Ending {
     /// The notes.
     notes: Notes,
     /// How it ended.
@@ -113,7 +113,7 @@ struct Outcome {
 /// returns whether the tip about a font that wasn't found is wanted.
 pub(crate) fn carry_out<R, I, O, E>(
     rt: &R,
-    requested: &Requested<'_>,
+    requested: &Arguments<'_>,
     input: &mut I,
     out: &mut O,
     err: &mut E,
@@ -132,33 +132,33 @@ where
     ensures cause { IfErr result.0 (IsCauseOf (λ _. None) (I.remaining input.old) requested.now) }
 {
     if is_noted(&requested.request) {
-        let outcome = note_all::<R, I, O, E, Requested<'_>>(
+        let ending = note_all::<R, I, O, E, Arguments<'_>>(
             rt,
             requested,
             input,
             out,
             Some(&mut *err),
         );
-        return report(rt, outcome, err);
+        return report(rt, ending, err);
     }
     // For the borrow checker: a type without lifetimes; it has no rule for a `None` of `&mut E`.
-    let outcome = note_all::<R, I, O, Vec<u8>, Requested<'_>>(rt, requested, input, out, None);
-    if outcome.done.is_ok() {
-        return (outcome.done, false);
+    let ending = note_all::<R, I, O, Vec<u8>, Arguments<'_>>(rt, requested, input, out, None);
+    if ending.done.is_ok() {
+        return (ending.done, false);
     }
-    report(rt, outcome, err)
+    report(rt, ending, err)
 }
 
 /// Prints what was noted and not yet printed. Returns how the request ended, and whether the tip is wanted.
-fn report<R: Wait, E: Write>(rt: &R, outcome: Outcome, err: &mut E) -> (Result<Done, Failure>, bool)
-    ensures { result.0 ≡ outcome.done }
+fn report<R: Wait, E: Write>(rt: &R, ending: Ending, err: &mut E) -> (Result<Done, Failure>, bool)
+    ensures { result.0 ≡ ending.done }
 {
-    let Outcome {
+    let Ending {
         notes,
         done,
         lines,
         error,
-    } = outcome;
+    } = ending;
     if is_refused(&done) {
         notes.note_kind(rt);
     }
@@ -183,43 +183,41 @@ fn is_refused(done: &Result<Done, Failure>) -> bool {
 /// If there is a second writer, what is noted is printed there before the next output.
 fn note_all<R, I, O, E, Q>(
     rt: &R,
-    stated: &Q,
+    arguments: &Q,
     input: &mut I,
     out: &mut O,
     err: Option<&mut E>,
-) -> Outcome
+) -> Ending
 where
     R: Files + AllocGlobal + Threads + Wait + Sync,
     R::File: Send,
     I: Read + Send,
     O: Write,
     E: Write,
-    Q: Stated,
+    Q: AnyArguments,
     ensures text { IfOk result.done (λ done. IsDone (λ _. None) (I.remaining input.old)
-        (O.contents out.old) (O.contents out.new) (Q.requested stated.now) (done_status done)) }
+        (O.contents out.old) (O.contents out.new) (Q.arguments arguments.now) (done_status done)) }
     ensures untouched { IfErr result.done (λ failure. is_stop failure ≡ false → out.new ≡ out.old) }
     ensures cause { IfErr result.done
-        (IsCauseOf (λ _. None) (I.remaining input.old) (Q.requested stated.now)) }
+        (IsCauseOf (λ _. None) (I.remaining input.old) (Q.arguments arguments.now)) }
 {
-    let notes = Notes::new(rt.alloc(), scope_of(stated.requested()));
-    let written = Written {
+    let notes = Notes::new(rt.alloc(), scope_of(arguments.arguments()));
+    let sink = Sink {
         out,
         err,
         lines: None,
         error: None,
     };
-    let (written, done) = perform_watched::<R, I, O, E, Brand, Q>(
-        rt, &notes, stated, input, written,
-    );
-    let Written {
+    let (sink, done) = perform_watched::<R, I, O, E, Brand, Q>(rt, &notes, arguments, input, sink);
+    let Sink {
         out: writer,
         err: _,
         lines,
         error,
-    } = written;
+    } = sink;
     // For the proof: this use of `writer` shows what `out` holds.
     let _ = &*writer;
-    Outcome {
+    Ending {
         notes,
         done,
         lines,
@@ -232,32 +230,32 @@ where
 fn perform_watched<'a, R, I, O, E, K, Q>(
     rt: &R,
     notes: &Notes,
-    stated: &Q,
+    arguments: &Q,
     input: &mut I,
-    written: Written<'a, O, E>,
-) -> (Written<'a, O, E>, Result<Done, Failure>)
+    sink: Sink<'a, O, E>,
+) -> (Sink<'a, O, E>, Result<Done, Failure>)
 where
     R: Files + AllocGlobal + Threads + Wait + Sync,
     R::File: Send,
     I: Read + Send,
     O: Write,
     E: Write,
-    K: Called,
-    Q: Stated,
-    requires { written.out.ghost_name ≡ K.name }
-    ensures same_reference { result.0.out.ghost_name ≡ written.entry.out.ghost_name }
+    K: WriterName,
+    Q: AnyArguments,
+    requires { sink.out.ghost_name ≡ K.name }
+    ensures same_reference { result.0.out.ghost_name ≡ sink.entry.out.ghost_name }
     ensures text { IfOk result.1 (λ done. IsDone (λ _. None) (I.remaining input.old)
-        (O.contents written.entry.out.now) (O.contents result.0.out.now)
-        (Q.requested stated.now) (done_status done)) }
+        (O.contents sink.entry.out.now) (O.contents result.0.out.now)
+        (Q.arguments arguments.now) (done_status done)) }
     ensures untouched { IfErr result.1 (λ failure. is_stop failure ≡ false
-        → result.0.out.now ≡ written.entry.out.now) }
+        → result.0.out.now ≡ sink.entry.out.now) }
     ensures cause { IfErr result.1
-        (IsCauseOf (λ _. None) (I.remaining input.old) (Q.requested stated.now)) }
+        (IsCauseOf (λ _. None) (I.remaining input.old) (Q.arguments arguments.now)) }
 {
-    let purpose = purpose_of_input(&stated.requested().request);
+    let purpose = purpose_of_input(&arguments.arguments().request);
     let files = WatchedFiles::new(rt, Disk::new(rt), notes);
     let mut input = WatchedReader::new(rt, notes, input, "standard input", purpose);
-    let mut out: WatchedWriter<'a, '_, '_, R, O, E, K> = WatchedWriter::new(rt, notes, written);
-    let done = perform(rt, &files, stated, &mut input, &mut out);
-    (out.into_written(files.lines.get()), done)
+    let mut out: WatchedWriter<'a, '_, '_, R, O, E, K> = WatchedWriter::new(rt, notes, sink);
+    let done = perform(rt, &files, arguments, &mut input, &mut out);
+    (out.into_sink(files.lines.get()), done)
 }

@@ -216,7 +216,7 @@ impl<R: Wait, T: Read> Read for WatchedReader<'_, '_, R, T> {
 }
 
 /// For the proof: the name of the reference to a writer.
-pub(crate) trait Called {
+pub(crate) trait WriterName {
     ghost use Rattle.std.specs.Prelude.{ℕ};
 
     /// The name.
@@ -224,13 +224,13 @@ pub(crate) trait Called {
 }
 
 /// A placeholder: the proof of the caller chooses the name.
-impl Called for Brand {
+impl WriterName for Brand {
     ghost name = { 0 };
 }
 
 /// What a request is written to, and what was noted of it.
 #[derive(Drop)]
-pub(crate) struct Written<'a, W, E> {
+pub(crate) struct Sink<'a, W, E> {
     /// The writer.
     pub out: &'a mut W,
     /// Standard error, if notes are printed before the output is complete.
@@ -244,7 +244,7 @@ pub(crate) struct Written<'a, W, E> {
 /// A writer that prints what was noted before each write, and notes its first error and whether it accepted bytes. For
 /// the proof: it is always the same writer, which `K` names.
 #[derive(Drop)]
-pub(crate) struct WatchedWriter<'a, 'r, 'n, R, W, E, K: Called> {
+pub(crate) struct WatchedWriter<'a, 'r, 'n, R, W, E, K: WriterName> {
     rt: &'r R,
     notes: &'n Notes,
     out: &'a mut W,
@@ -255,17 +255,17 @@ pub(crate) struct WatchedWriter<'a, 'r, 'n, R, W, E, K: Called> {
     ghost same: { out.ghost_name ≡ K.name },
 }
 
-impl<'a, 'r, 'n, R: Wait, W: Write, E: Write, K: Called> WatchedWriter<'a, 'r, 'n, R, W, E, K> {
+impl<'a, 'r, 'n, R: Wait, W: Write, E: Write, K: WriterName> WatchedWriter<'a, 'r, 'n, R, W, E, K> {
     /// Returns this writer, of which nothing is noted.
-    pub fn new(rt: &'r R, notes: &'n Notes, written: Written<'a, W, E>) -> Self
-        requires { written.out.ghost_name ≡ K.name }
-        ensures { result.out ≡ written.entry.out }
+    pub fn new(rt: &'r R, notes: &'n Notes, sink: Sink<'a, W, E>) -> Self
+        requires { sink.out.ghost_name ≡ K.name }
+        ensures { result.out ≡ sink.entry.out }
     {
         WatchedWriter {
             rt,
             notes,
-            out: written.out,
-            err: written.err,
+            out: sink.out,
+            err: sink.err,
             any: false,
             error: None,
             of: PhantomData,
@@ -273,7 +273,7 @@ impl<'a, 'r, 'n, R: Wait, W: Write, E: Write, K: Called> WatchedWriter<'a, 'r, '
     }
 
     /// Returns the writer, and what was noted of it, with these numbers of lines.
-    pub fn into_written(self, lines: LineCounts) -> Written<'a, W, E>
+    pub fn into_sink(self, lines: LineCounts) -> Sink<'a, W, E>
         ensures { result.out ≡ self.entry.out }
     {
         let WatchedWriter {
@@ -286,7 +286,7 @@ impl<'a, 'r, 'n, R: Wait, W: Write, E: Write, K: Called> WatchedWriter<'a, 'r, '
             of: _,
         } = self;
         let lines = any.then_some(lines);
-        Written {
+        Sink {
             out,
             err,
             lines,
@@ -313,7 +313,7 @@ impl<'a, 'r, 'n, R: Wait, W: Write, E: Write, K: Called> WatchedWriter<'a, 'r, '
     }
 }
 
-impl<R: Wait, W: Write, E: Write, K: Called> Write for WatchedWriter<'_, '_, '_, R, W, E, K> {
+impl<R: Wait, W: Write, E: Write, K: WriterName> Write for WatchedWriter<'_, '_, '_, R, W, E, K> {
     ghost contents = { λ watched. W.contents watched.out.now };
 
     fn write(&mut self, bytes: &[u8]) -> io::Result<usize> {

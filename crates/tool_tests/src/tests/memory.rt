@@ -21,7 +21,7 @@ use test_support::fonts::files::{NO_CHARACTERS, PLAIN};
 use test_support::{FailingWriter, TricklingReader};
 use tfm_tables::Font;
 use tfm_tool::{
-    Done, Failure, FontSetting, InMemory, Request, Requested, Summary, ToolFault, counts_text,
+    Arguments, Done, Failure, FontSetting, InMemory, Request, Summary, ToolFault, counts_text,
     list_text, perform, set_text, status,
 };
 
@@ -193,7 +193,7 @@ fn a_refused_request_of_a_listing(rt: HostRuntime) -> Result<(), Fail> {
 
 /// Returns the request to stream two files, or to set the lines of a file with the encoding of a vector. `None` means
 /// that an allocation failed.
-fn requested_of(alloc: Global, streams: bool) -> Option<Requested<'static>> {
+fn requested_of(alloc: Global, streams: bool) -> Option<Arguments<'static>> {
     let files = if streams {
         ["ab", "a"].as_slice()
     } else {
@@ -221,7 +221,7 @@ fn requested_of(alloc: Global, streams: bool) -> Option<Requested<'static>> {
     } else {
         (Request::Set(setting), Some("v.enc"))
     };
-    Some(Requested { request, vector })
+    Some(Arguments { request, vector })
 }
 
 /// Carries out a request. `None` means that an allocation of the arguments failed.

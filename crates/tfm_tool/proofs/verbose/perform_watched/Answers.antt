@@ -9,9 +9,9 @@ pub returns-clause-text : goal.returns-clause-text
 returns-clause-text g c =
     let remaining = λ (reader : MutBor g.row.I.Denot). g.I.Read.remaining reader.now in
     let contents = λ (out : MutBor g.row.O.Denot). g.O.Write.contents out.now in
-    let asked = g.Q.Stated.requested c.args.stated.now in
-    subst (λ after. IfOk c.perform-done.result (λ done. IsDone (λ _. None) (remaining c.args.input) (contents c.args.written.out) after asked (done_status done)))
-    (sym (ap contents c.into_written.ensures))
+    let asked = g.Q.AnyArguments.arguments c.args.arguments.now in
+    subst (λ after. IfOk c.perform-done.result (λ done. IsDone (λ _. None) (remaining c.args.input) (contents c.args.sink.out) after asked (done_status done)))
+    (sym (ap contents c.into_sink.ensures))
     (subst (λ before. IfOk c.perform-done.result (λ done. IsDone (λ _. None) (remaining c.args.input) before (contents c.perform-done.new.out.out) asked (done_status done)))
     (ap contents c.new-out.ensures)
     (subst (λ input. IfOk c.perform-done.result (λ done. IsDone (λ _. None) input (contents c.new-out.result.out) (contents c.perform-done.new.out.out) asked (done_status done)))
@@ -20,5 +20,5 @@ returns-clause-text g c =
 pub returns-clause-cause : goal.returns-clause-cause
 returns-clause-cause g c =
     let remaining = λ (reader : MutBor g.row.I.Denot). g.I.Read.remaining reader.now in
-    subst (λ input. IfErr c.perform-done.result (IsCauseOf (λ _. None) input (g.Q.Stated.requested c.args.stated.now)))
+    subst (λ input. IfErr c.perform-done.result (IsCauseOf (λ _. None) input (g.Q.AnyArguments.arguments c.args.arguments.now)))
     (ap remaining c.new-input.ensures) c.perform-done.ensures.cause
