@@ -1,6 +1,4 @@
 //! The arguments of the subcommands, as tables.
-
-use crate::argument_tables::Form::{Flag, Many, Number, One, Text, Verbose, Word};
 use crate::help::{
     ALL_HELP, BLOCK_HELP, BOX_UNIT_HELP, CAPACITY_HELP, CAUSES_HELP, CRLF_HELP, ENCODING_HELP,
     FILE_HELP, FILES_FROM_HELP, FONT_HELP, FONTS_HELP, FORMAT_HELP, JSON_FORMAT_HELP, LIMIT_HELP,
@@ -30,52 +28,62 @@ pub(crate) enum Form<'a> {
 /// An argument: its name, its help, what it takes, and its default value.
 pub(crate) type Row<'a> = (&'a str, &'a str, Form<'a>, Option<&'a str>);
 
-const SIZE: Row<'static> = ("size", SIZE_HELP, Text("N", false), None);
+const SIZE: Row<'static> = ("size", SIZE_HELP, Form::Text("N", false), None);
 
-const LIMIT: Row<'static> = ("limit", LIMIT_HELP, Number(16_777_216), Some("1048576"));
+const LIMIT: Row<'static> = (
+    "limit",
+    LIMIT_HELP,
+    Form::Number(16_777_216),
+    Some("1048576"),
+);
 
 const UNITS: &[&str] = &["sp", "pt", "bp", "mm", "cm", "in", "pc"];
 
-const UNIT: Row<'static> = ("unit", UNIT_HELP, Word("U", UNITS), Some("sp"));
+const UNIT: Row<'static> = ("unit", UNIT_HELP, Form::Word("U", UNITS), Some("sp"));
 
 const JSON_FORMAT: Row<'static> = (
     "format",
     JSON_FORMAT_HELP,
-    Word("F", &["text", "json"]),
+    Form::Word("F", &["text", "json"]),
     Some("text"),
 );
 
-const ENCODING: Row<'static> = ("encoding", ENCODING_HELP, Text("E", false), Some("bytes"));
+const ENCODING: Row<'static> = (
+    "encoding",
+    ENCODING_HELP,
+    Form::Text("E", false),
+    Some("bytes"),
+);
 
-const CAUSES: Row<'static> = ("verbose", CAUSES_HELP, Verbose, None);
+const CAUSES: Row<'static> = ("verbose", CAUSES_HELP, Form::Verbose, None);
 
-const FONT: Row<'static> = ("FONT", FONT_HELP, One, None);
+const FONT: Row<'static> = ("FONT", FONT_HELP, Form::One, None);
 
 const MISSING: Row<'static> = (
     "missing",
     MISSING_HELP,
-    Word("P", &["refuse", "skip"]),
+    Form::Word("P", &["refuse", "skip"]),
     Some("refuse"),
 );
 
-const CRLF: Row<'static> = ("crlf", CRLF_HELP, Flag, None);
+const CRLF: Row<'static> = ("crlf", CRLF_HELP, Form::Flag, None);
 
-const WORKERS: Row<'static> = ("workers", WORKERS_HELP, Number(16), Some("2"));
+const WORKERS: Row<'static> = ("workers", WORKERS_HELP, Form::Number(16), Some("2"));
 
-const CAPACITY: Row<'static> = ("capacity", CAPACITY_HELP, Number(65_536), Some("16"));
+const CAPACITY: Row<'static> = ("capacity", CAPACITY_HELP, Form::Number(65_536), Some("16"));
 
-const BLOCK: Row<'static> = ("block", BLOCK_HELP, Number(8), Some("1"));
+const BLOCK: Row<'static> = ("block", BLOCK_HELP, Form::Number(8), Some("1"));
 
 const RECORD: Row<'static> = (
     "record",
     RECORD_HELP,
-    Word("V", &["1", "2", "json", "box"]),
+    Form::Word("V", &["1", "2", "json", "box"]),
     Some("1"),
 );
 
-const BOX_UNIT: Row<'static> = ("unit", BOX_UNIT_HELP, Word("U", UNITS), None);
+const BOX_UNIT: Row<'static> = ("unit", BOX_UNIT_HELP, Form::Word("U", UNITS), None);
 
-const VERBOSE: Row<'static> = ("verbose", VERBOSE_HELP, Verbose, None);
+const VERBOSE: Row<'static> = ("verbose", VERBOSE_HELP, Form::Verbose, None);
 
 /// The arguments of `counts`.
 pub(crate) static COUNTS: [Row<'static>; 2] = [CAUSES, FONT];
@@ -85,7 +93,7 @@ pub(crate) static LIST: [Row<'static>; 6] = [
     SIZE,
     UNIT,
     JSON_FORMAT,
-    ("all", ALL_HELP, Flag, None),
+    ("all", ALL_HELP, Form::Flag, None),
     CAUSES,
     FONT,
 ];
@@ -97,7 +105,7 @@ pub(crate) static PAIRS: [Row<'static>; 6] = [
     (
         "format",
         FORMAT_HELP,
-        Word("F", &["text", "csv", "json"]),
+        Form::Word("F", &["text", "csv", "json"]),
         Some("text"),
     ),
     ENCODING,
@@ -107,15 +115,20 @@ pub(crate) static PAIRS: [Row<'static>; 6] = [
 
 /// The arguments of `check`.
 pub(crate) static CHECK: [Row<'static>; 9] = [
-    ("size", SIZE_HELP, Text("N", true), None),
-    ("strict", STRICT_HELP, Flag, None),
-    ("quiet", QUIET_HELP, Flag, None),
-    ("summary", SUMMARY_HELP, Flag, None),
+    ("size", SIZE_HELP, Form::Text("N", true), None),
+    ("strict", STRICT_HELP, Form::Flag, None),
+    ("quiet", QUIET_HELP, Form::Flag, None),
+    ("summary", SUMMARY_HELP, Form::Flag, None),
     JSON_FORMAT,
-    ("files-from", FILES_FROM_HELP, Text("FILE", false), None),
-    ("null", NULL_HELP, Flag, None),
+    (
+        "files-from",
+        FILES_FROM_HELP,
+        Form::Text("FILE", false),
+        None,
+    ),
+    ("null", NULL_HELP, Form::Flag, None),
     CAUSES,
-    ("FONT", FONTS_HELP, Many(false), None),
+    ("FONT", FONTS_HELP, Form::Many(false), None),
 ];
 
 /// The arguments of `set`.
@@ -132,7 +145,7 @@ pub(crate) static SET: [Row<'static>; 13] = [
     BOX_UNIT,
     VERBOSE,
     FONT,
-    ("FILE", FILE_HELP, Many(true), None),
+    ("FILE", FILE_HELP, Form::Many(true), None),
 ];
 
 /// The arguments of `stream`.
@@ -144,12 +157,12 @@ pub(crate) static STREAM: [Row<'static>; 13] = [
     ENCODING,
     WORKERS,
     CAPACITY,
-    ("block", STREAM_BLOCK_HELP, Number(8), None),
+    ("block", STREAM_BLOCK_HELP, Form::Number(8), None),
     RECORD,
     BOX_UNIT,
     VERBOSE,
     FONT,
-    ("FILE", STREAM_FILE_HELP, Many(false), None),
+    ("FILE", STREAM_FILE_HELP, Form::Many(false), None),
 ];
 
 /// The arguments of `each`.
@@ -164,5 +177,5 @@ pub(crate) static EACH: [Row<'static>; 11] = [
     RECORD,
     BOX_UNIT,
     VERBOSE,
-    ("WORD", WORDS_HELP, Many(true), None),
+    ("WORD", WORDS_HELP, Form::Many(true), None),
 ];
