@@ -10,8 +10,8 @@ use Rattle.clap.specs.declared.builder.command.Command.TheViews.{out-Command as 
 use Rattle.clap.specs.declared.builder.action.ArgAction.TheVariants.{SetTrue}
 use Rattle.clap.specs.declared.builder.value_parser.ValueParser.{ValueParser}
 use Rattle.clap.specs.declared.builder.value_parser.ValueParser.TheVariants as parser
-use Rattle.command_line.specs.declared.argument_tables.Form.{Form}
-use Rattle.command_line.specs.declared.argument_tables.Form.TheVariants as form
+use Rattle.command_line.specs.declared.argument_tables.Kind.{Kind}
+use Rattle.command_line.specs.declared.argument_tables.Kind.TheVariants as row_kind
 use Rattle.command_line.specs.declared.commands.Subcommand.{Subcommand}
 use Rattle.command_line.specs.declared.commands.Subcommand.TheVariants as kind
 use Rattle.tex_sizes.specs.Lengths.{unit_name, units as length_units}
@@ -55,20 +55,20 @@ abbrev pub TakesWords : List Text → ValueParser → Type 0
 TakesWords words (parser.Names names) = map (λ (word : Bor Text). word.now) names.now ≡ words
 TakesWords words _ = ⊥
 
--- the argument of this name that takes what the form states, without a default value
-abbrev pub rule_of_form : Text → Form → Rule
-rule_of_form name form.One = needed (new_rule name)
-rule_of_form name (form.Many required) = record (words_rule name) { required = required }
-rule_of_form name form.Flag = flag_rule name
-rule_of_form name form.Verbose = record (flag_rule name) { short = Some 118 }
-rule_of_form name (form.Text _ _) = text_rule name
-rule_of_form name (form.Number most) = number_rule name most
-rule_of_form name (form.Word _ words) = choice_rule name (parser.Names words)
+-- the argument of this name that takes what the kind states, without a default value
+abbrev pub rule_of_kind : Text → Kind → Rule
+rule_of_kind name row_kind.One = needed (new_rule name)
+rule_of_kind name (row_kind.Many required) = record (words_rule name) { required = required }
+rule_of_kind name row_kind.Flag = flag_rule name
+rule_of_kind name row_kind.Verbose = record (flag_rule name) { short = Some 118 }
+rule_of_kind name (row_kind.Text _ _) = text_rule name
+rule_of_kind name (row_kind.Number most) = number_rule name most
+rule_of_kind name (row_kind.Word _ words) = choice_rule name (parser.Names words)
 
--- the argument of a row: its name, its help, its form, and its default value, if it has one
-abbrev pub rule_in : Bor Text × Bor Text × Form × Option (Bor Text) → Rule
-rule_in (name, help, form, None) = rule_of_form name.now form
-rule_in (name, help, form, Some value) = with_default value.now (rule_of_form name.now form)
+-- the argument of a row: its name, its help, its kind, and its default value, if it has one
+abbrev pub rule_in : Bor Text × Bor Text × Kind × Option (Bor Text) → Rule
+rule_in (name, help, kind, None) = rule_of_kind name.now kind
+rule_in (name, help, kind, Some value) = with_default value.now (rule_of_kind name.now kind)
 
 -- ---- options
 

@@ -8,7 +8,7 @@ use crate::help::{
 
 /// What an argument takes.
 #[derive(Clone, Copy)]
-pub(crate) enum Form<'a> {
+pub(crate) enum Kind<'a> {
     /// One value, which is required, without an option.
     One,
     /// One or more values without an option. The flag states that the argument is required.
@@ -26,64 +26,64 @@ pub(crate) enum Form<'a> {
 }
 
 /// An argument: its name, its help, what it takes, and its default value.
-pub(crate) type Row<'a> = (&'a str, &'a str, Form<'a>, Option<&'a str>);
+pub(crate) type Row<'a> = (&'a str, &'a str, Kind<'a>, Option<&'a str>);
 
-const SIZE: Row<'static> = ("size", SIZE_HELP, Form::Text("N", false), None);
+const SIZE: Row<'static> = ("size", SIZE_HELP, Kind::Text("N", false), None);
 
 const LIMIT: Row<'static> = (
     "limit",
     LIMIT_HELP,
-    Form::Number(16_777_216),
+    Kind::Number(16_777_216),
     Some("1048576"),
 );
 
 const UNITS: &[&str] = &["sp", "pt", "bp", "mm", "cm", "in", "pc"];
 
-const UNIT: Row<'static> = ("unit", UNIT_HELP, Form::Word("U", UNITS), Some("sp"));
+const UNIT: Row<'static> = ("unit", UNIT_HELP, Kind::Word("U", UNITS), Some("sp"));
 
 const JSON_FORMAT: Row<'static> = (
     "format",
     JSON_FORMAT_HELP,
-    Form::Word("F", &["text", "json"]),
+    Kind::Word("F", &["text", "json"]),
     Some("text"),
 );
 
 const ENCODING: Row<'static> = (
     "encoding",
     ENCODING_HELP,
-    Form::Text("E", false),
+    Kind::Text("E", false),
     Some("bytes"),
 );
 
-const CAUSES: Row<'static> = ("verbose", CAUSES_HELP, Form::Verbose, None);
+const CAUSES: Row<'static> = ("verbose", CAUSES_HELP, Kind::Verbose, None);
 
-const FONT: Row<'static> = ("FONT", FONT_HELP, Form::One, None);
+const FONT: Row<'static> = ("FONT", FONT_HELP, Kind::One, None);
 
 const MISSING: Row<'static> = (
     "missing",
     MISSING_HELP,
-    Form::Word("P", &["refuse", "skip"]),
+    Kind::Word("P", &["refuse", "skip"]),
     Some("refuse"),
 );
 
-const CRLF: Row<'static> = ("crlf", CRLF_HELP, Form::Flag, None);
+const CRLF: Row<'static> = ("crlf", CRLF_HELP, Kind::Flag, None);
 
-const WORKERS: Row<'static> = ("workers", WORKERS_HELP, Form::Number(16), Some("2"));
+const WORKERS: Row<'static> = ("workers", WORKERS_HELP, Kind::Number(16), Some("2"));
 
-const CAPACITY: Row<'static> = ("capacity", CAPACITY_HELP, Form::Number(65_536), Some("16"));
+const CAPACITY: Row<'static> = ("capacity", CAPACITY_HELP, Kind::Number(65_536), Some("16"));
 
-const BLOCK: Row<'static> = ("block", BLOCK_HELP, Form::Number(8), Some("1"));
+const BLOCK: Row<'static> = ("block", BLOCK_HELP, Kind::Number(8), Some("1"));
 
 const RECORD: Row<'static> = (
     "record",
     RECORD_HELP,
-    Form::Word("V", &["1", "2", "json", "box"]),
+    Kind::Word("V", &["1", "2", "json", "box"]),
     Some("1"),
 );
 
-const BOX_UNIT: Row<'static> = ("unit", BOX_UNIT_HELP, Form::Word("U", UNITS), None);
+const BOX_UNIT: Row<'static> = ("unit", BOX_UNIT_HELP, Kind::Word("U", UNITS), None);
 
-const VERBOSE: Row<'static> = ("verbose", VERBOSE_HELP, Form::Verbose, None);
+const VERBOSE: Row<'static> = ("verbose", VERBOSE_HELP, Kind::Verbose, None);
 
 /// The arguments of `counts`.
 pub(crate) static COUNTS: [Row<'static>; 2] = [CAUSES, FONT];
@@ -93,7 +93,7 @@ pub(crate) static LIST: [Row<'static>; 6] = [
     SIZE,
     UNIT,
     JSON_FORMAT,
-    ("all", ALL_HELP, Form::Flag, None),
+    ("all", ALL_HELP, Kind::Flag, None),
     CAUSES,
     FONT,
 ];
@@ -105,7 +105,7 @@ pub(crate) static PAIRS: [Row<'static>; 6] = [
     (
         "format",
         FORMAT_HELP,
-        Form::Word("F", &["text", "csv", "json"]),
+        Kind::Word("F", &["text", "csv", "json"]),
         Some("text"),
     ),
     ENCODING,
@@ -115,20 +115,20 @@ pub(crate) static PAIRS: [Row<'static>; 6] = [
 
 /// The arguments of `check`.
 pub(crate) static CHECK: [Row<'static>; 9] = [
-    ("size", SIZE_HELP, Form::Text("N", true), None),
-    ("strict", STRICT_HELP, Form::Flag, None),
-    ("quiet", QUIET_HELP, Form::Flag, None),
-    ("summary", SUMMARY_HELP, Form::Flag, None),
+    ("size", SIZE_HELP, Kind::Text("N", true), None),
+    ("strict", STRICT_HELP, Kind::Flag, None),
+    ("quiet", QUIET_HELP, Kind::Flag, None),
+    ("summary", SUMMARY_HELP, Kind::Flag, None),
     JSON_FORMAT,
     (
         "files-from",
         FILES_FROM_HELP,
-        Form::Text("FILE", false),
+        Kind::Text("FILE", false),
         None,
     ),
-    ("null", NULL_HELP, Form::Flag, None),
+    ("null", NULL_HELP, Kind::Flag, None),
     CAUSES,
-    ("FONT", FONTS_HELP, Form::Many(false), None),
+    ("FONT", FONTS_HELP, Kind::Many(false), None),
 ];
 
 /// The arguments of `set`.
@@ -145,7 +145,7 @@ pub(crate) static SET: [Row<'static>; 13] = [
     BOX_UNIT,
     VERBOSE,
     FONT,
-    ("FILE", FILE_HELP, Form::Many(true), None),
+    ("FILE", FILE_HELP, Kind::Many(true), None),
 ];
 
 /// The arguments of `stream`.
@@ -157,12 +157,12 @@ pub(crate) static STREAM: [Row<'static>; 13] = [
     ENCODING,
     WORKERS,
     CAPACITY,
-    ("block", STREAM_BLOCK_HELP, Form::Number(8), None),
+    ("block", STREAM_BLOCK_HELP, Kind::Number(8), None),
     RECORD,
     BOX_UNIT,
     VERBOSE,
     FONT,
-    ("FILE", STREAM_FILE_HELP, Form::Many(false), None),
+    ("FILE", STREAM_FILE_HELP, Kind::Many(false), None),
 ];
 
 /// The arguments of `each`.
@@ -177,5 +177,5 @@ pub(crate) static EACH: [Row<'static>; 11] = [
     RECORD,
     BOX_UNIT,
     VERBOSE,
-    ("WORD", WORDS_HELP, Form::Many(true), None),
+    ("WORD", WORDS_HELP, Kind::Many(true), None),
 ];

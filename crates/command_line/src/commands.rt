@@ -1,9 +1,9 @@
 //! Builds the `clap` command: its subcommands and their arguments, with ranges and defaults.
 ghost use Rattle.std.specs.Prelude.{◌≡◌, map, IfOk};
 ghost use Rattle.clap.specs.Words.{App, Rule, Shape, new_app, with_rule, with_subcommand};
-ghost use Rattle.command_line.specs.Commands.{AllChoices, IsArgument, IsBuilt, IsCommandOf, IsSubcommand, bare_app, rule_in, rule_of_form, subcommand_name, tfmset_app, with_rules};
+ghost use Rattle.command_line.specs.Commands.{AllChoices, IsArgument, IsBuilt, IsCommandOf, IsSubcommand, bare_app, rule_in, rule_of_kind, subcommand_name, tfmset_app, with_rules};
 
-use crate::argument_tables::{CHECK, COUNTS, EACH, Form, LIST, PAIRS, Row, SET, STREAM};
+use crate::argument_tables::{CHECK, COUNTS, EACH, Kind, LIST, PAIRS, Row, SET, STREAM};
 use crate::help::{
     ABOUT, AFTER_HELP, CHECK_ABOUT, CHECK_AFTER_HELP, COUNTS_ABOUT, COUNTS_AFTER_HELP, EACH_ABOUT,
     EACH_AFTER_HELP, LIST_ABOUT, LIST_AFTER_HELP, PAIRS_ABOUT, PAIRS_AFTER_HELP, SET_ABOUT,
@@ -210,21 +210,21 @@ fn argument<'a>(alloc: Global, row: &Row<'a>) -> Arg<'a>
 
 /// Builds an argument without its default value.
 fn without_default<'a>(alloc: Global, row: &Row<'a>) -> Arg<'a>
-    ensures { IsArgument (rule_of_form row.now.0.now row.now.2) result }
+    ensures { IsArgument (rule_of_kind row.now.0.now row.now.2) result }
 {
-    let (name, help, form, _) = *row;
+    let (name, help, kind, _) = *row;
     let argument = Arg::new(alloc, name).help(help);
-    match form {
-        Form::One => argument.required(true),
-        Form::Many(required) => argument.num_args(1..).required(required),
-        Form::Flag => argument.long(name).action(ArgAction::SetTrue),
-        Form::Verbose => argument.long(name).action(ArgAction::SetTrue).short('v'),
-        Form::Text(value, hidden) => argument.long(name).value_name(value).hide(hidden),
-        Form::Number(most) => argument
+    match kind {
+        Kind::One => argument.required(true),
+        Kind::Many(required) => argument.num_args(1..).required(required),
+        Kind::Flag => argument.long(name).action(ArgAction::SetTrue),
+        Kind::Verbose => argument.long(name).action(ArgAction::SetTrue).short('v'),
+        Kind::Text(value, hidden) => argument.long(name).value_name(value).hide(hidden),
+        Kind::Number(most) => argument
             .long(name)
             .value_name("N")
             .value_parser(ValueParser::signed(1, i64::from(most))),
-        Form::Word(value, words) => argument
+        Kind::Word(value, words) => argument
             .long(name)
             .value_name(value)
             .value_parser(words)

@@ -10,8 +10,8 @@ use Rattle.line_chunks.specs.Chunks.{ChunkValue, cut}
 use Rattle.line_chunks.specs.Pending.{AreAll, EndsWithFeed}
 use Rattle.line_chunks.specs.Reading.{GivesChunk, Told, gives_told, told_by}
 use Rattle.set_line.specs.Returns.{before_feed, lines_in}
-use Rattle.line_chunks.specs.declared.chunk_reader.ReaderState.{ReaderState}
-use Rattle.line_chunks.specs.declared.chunk_reader.ReaderState.TheVariants.{AtEnd, Failed, Open}
+use Rattle.line_chunks.specs.declared.chunk_reader.ChunkReaderState.{ChunkReaderState}
+use Rattle.line_chunks.specs.declared.chunk_reader.ChunkReaderState.TheVariants.{AtEnd, Failed, Open}
 use Rattle.set_line.proofs.ReturnLemmas.{last_line, lines_at_feed, no_lines}
 use Rattle.line_chunks.proofs.FeedLemmas.{lines_apart}
 
@@ -76,7 +76,7 @@ gives_lines before after (line ∷ lines) first count number next some loses cou
     (line ∷ lines, returned before after line lines loses, (λ none. cc, refl, λ fits. let here = numbered (omega arith) in (here, omega arith)))
 
 -- after a read, what is given is given as before it
-pub gives_after_read : (crlf : Bool) (state : ReaderState) (before between : Option (List ℕ)) (first next : ℕ) (given : Option ChunkValue) (after : Told)
+pub gives_after_read : (crlf : Bool) (state : ChunkReaderState) (before between : Option (List ℕ)) (first next : ℕ) (given : Option ChunkValue) (after : Told)
     → Keeps before between → GivesChunk (told_by crlf state between) first (Ok given) after next → GivesChunk (told_by crlf state before) first (Ok given) after next
 gives_after_read crlf Open None between first next None after keeps gives = (refl, gives.1, tt)
 gives_after_read crlf Open None between first next (Some chunk) after keeps ([], returned, is) = absurd (is.0 refl)

@@ -10,13 +10,13 @@ use Rattle.line_chunks.specs.Chunks.{ChunkValue, cut}
 use Rattle.line_chunks.specs.Pending.{PendingValue, bytes_of}
 use Rattle.set_line.specs.Returns.{lines_in}
 use Rattle.line_chunks.specs.declared.chunk_reader.ChunkReader.{ChunkReader}
-use Rattle.line_chunks.specs.declared.chunk_reader.ReaderState.{ReaderState}
-use Rattle.line_chunks.specs.declared.chunk_reader.ReaderState.TheVariants.{Open, AtEnd, Failed}
-use Rattle.line_chunks.specs.declared.input.Filled.{Filled}
-use Rattle.line_chunks.specs.declared.input.Filled.TheVariants.{Lines, End, Long}
+use Rattle.line_chunks.specs.declared.chunk_reader.ChunkReaderState.{ChunkReaderState}
+use Rattle.line_chunks.specs.declared.chunk_reader.ChunkReaderState.TheVariants.{Open, AtEnd, Failed}
+use Rattle.line_chunks.specs.declared.input.Filling.{Filling}
+use Rattle.line_chunks.specs.declared.input.Filling.TheVariants.{Lines, End, Long}
 
 -- the pending bytes after some reads, and the bytes that the reader still has, if these are known
-abbrev pub IsFilled : Filled → PendingValue → Option (List ℕ) → Type 0
+abbrev pub IsFilled : Filling → PendingValue → Option (List ℕ) → Type 0
 IsFilled Lines pending left = pending.lines ≢ []
 IsFilled End pending left = (pending.lines ≡ []) × IsAtEnd left
 IsFilled (Long reads) pending left = (pending.lines ≡ []) × (65536 < length pending.rest) × (length pending.rest < 2 ^ 63)
@@ -27,7 +27,7 @@ pub record Told : Type 0 where
   pub fault : Option SourceFault
 
 -- what is known of a reader with these bytes to come, if they are known; the flag states that lines may end with CR LF
-abbrev pub told_by : Bool → ReaderState → Option (List ℕ) → Told
+abbrev pub told_by : Bool → ChunkReaderState → Option (List ℕ) → Told
 told_by crlf Open bytes = record { lines = option_map (lines_in crlf) bytes; fault = None }
 told_by crlf AtEnd bytes = record { lines = Some []; fault = None }
 told_by crlf (Failed fault) bytes = record { lines = None; fault = Some fault }

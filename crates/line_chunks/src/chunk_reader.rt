@@ -1,11 +1,11 @@
 ghost use Rattle.std.specs.Prelude.{◌≡◌, ◌≢◌, ◌+◌, ◌<◌, ◌^◌, [], IfOk, Ok, Some, length};
 ghost use Rattle.std.specs.Io.KnownBytes.{IsAtEnd};
 ghost use Rattle.line_chunks.specs.Reading.{ReadsFrom, gives_chunk};
-ghost use Rattle.line_chunks.specs.declared.chunk_reader.ReaderState.TheVariants.{Open};
+ghost use Rattle.line_chunks.specs.declared.chunk_reader.ChunkReaderState.TheVariants.{Open};
 
 use crate::Chunk;
 use crate::cutting::count_feeds;
-use crate::input::{Filled, Input, Skipped};
+use crate::input::{Filling, Input, Skipped};
 use batch::ItemSource;
 use lanes::SourceFault;
 use std::alloc::Global;
@@ -14,7 +14,7 @@ use std::snapshot::Snapshot;
 
 /// How far a reader has been read.
 #[derive(Clone, Copy, Drop)]
-pub(crate) enum ReaderState {
+pub(crate) enum ChunkReaderState {
     /// It may have more bytes.
     Open,
     /// Its end was reached.
@@ -31,7 +31,7 @@ pub(crate) enum ReaderState {
 #[derive(Drop)]
 pub struct ChunkReader<R> {
     input: Input<R>,
-    state: ReaderState,
+    state: ChunkReaderState,
     /// Whether lines may end with CR LF.
     crlf: bool,
     /// The largest number of lines in a chunk.
@@ -51,7 +51,7 @@ impl<R: Read> ChunkReader<R> {
         let made_of = Snapshot::of(&reader);
         ChunkReader {
             input: Input::new(alloc, reader),
-            state: ReaderState::Open,
+            state: ChunkReaderState::Open,
             crlf,
             most,
             next: 1,
@@ -102,7 +102,7 @@ impl<R: Read> ChunkReader<R> {
         ensures gives { IfOk result (λ given. gives_chunk R.remaining self.old (Ok given) self.new) }
         ensures origin { self.new.made_of.value ≡ self.old.made_of.value }
     {
-        self.state = ReaderState::AtEnd;
+        self.state = ChunkReaderState::AtEnd;
         if self.input.pending.rest_len() == 0 {
             return Ok(None);
         }
@@ -129,7 +129,7 @@ impl<R: Read> ChunkReader<R> {
                 Ok(Chunk::of_length(first, line.length(self.crlf)))
             }
             Skipped::ToEnd(line) => {
-                self.state = ReaderState::AtEnd;
+                self.state = ChunkReaderState::AtEnd;
                 let first = self.number(1);
                 Ok(Chunk::of_length(first, line.length(false)))
             }
@@ -146,9 +146,9 @@ impl<R: Read> ChunkReader<R> {
             return Ok(Some(self.whole_lines()?));
         }
         match self.input.fill()? {
-            Filled::Lines => Ok(Some(self.whole_lines()?)),
-            Filled::End => self.last_line(),
-            Filled::Long(reads) => Ok(Some(self.long_line(reads)?)),
+            Filling::Lines => Ok(Some(self.whole_lines()?)),
+            Filling::End => self.last_line(),
+            Filling::Long(reads) => Ok(Some(self.long_line(reads)?)),
         }
     }
 }
@@ -164,15 +164,15 @@ impl<R: Read> ItemSource<Chunk> for ChunkReader<R> {
 
     fn next_item(&mut self) -> Result<Option<Chunk>, SourceFault> {
         match self.state {
-            ReaderState::Open => match self.next_chunk() {
+            ChunkReaderState::Open => match self.next_chunk() {
                 Ok(chunk) => Ok(chunk),
                 Err(fault) => {
-                    self.state = ReaderState::Failed(fault);
+                    self.state = ChunkReaderState::Failed(fault);
                     Err(fault)
                 }
             },
-            ReaderState::AtEnd => Ok(None),
-            ReaderState::Failed(fault) => Err(fault),
+            ChunkReaderState::AtEnd => Ok(None),
+            ChunkReaderState::Failed(fault) => Err(fault),
         }
     }
 

@@ -28,7 +28,7 @@ pub(crate) struct Input<R> {
 
 /// What the pending bytes are after some reads.
 #[derive(Clone, Copy)]
-pub(crate) enum Filled {
+pub(crate) enum Filling {
     /// They have whole lines.
     Lines,
     /// They are all bytes up to the end of the reader, which don't end with a line feed.
@@ -100,7 +100,7 @@ impl<R: Read> Input<R> {
 
     /// Reads until there are whole lines, or the beginning of a line that is too long, or the reader is at its end.
     /// There must be no whole lines.
-    pub(crate) fn fill(&mut self) -> Result<Filled, SourceFault>
+    pub(crate) fn fill(&mut self) -> Result<Filling, SourceFault>
         requires { self.old.pending.lines ≡ [] }
         ensures text { OnOk result (Keeps (prepend_known (bytes_of self.old.pending) (R.remaining self.old.reader))
             (prepend_known (bytes_of self.new.pending) (R.remaining self.new.reader))) }
@@ -108,13 +108,13 @@ impl<R: Read> Input<R> {
     {
         for reads in 0..MOST_READS {
             if self.pending.rest_len() > LONGEST {
-                return Ok(Filled::Long(MOST_READS - reads));
+                return Ok(Filling::Long(MOST_READS - reads));
             }
             if self.read()? {
-                return Ok(Filled::End);
+                return Ok(Filling::End);
             }
             if self.pending.has_lines() {
-                return Ok(Filled::Lines);
+                return Ok(Filling::Lines);
             }
         }
         Err(SourceFault::ReadBound)
